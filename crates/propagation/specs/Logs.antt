@@ -10,12 +10,14 @@ pub record Emission (V : Type 0) : Type 0 where
   pub value : V
   pub stamps : Stamps
 
+-- a message from one service to another, under an epoch of the edge between them
 pub data Frame (V : Type 0) : Type 0 where
   Subscribe : ℕ → Frame V  -- an epoch
   Unsubscribe : ℕ → Frame V  -- an epoch
   Sources : ℕ → List ℕ → Frame V  -- an epoch and the keys
   Changed : ℕ → V → List (ℕ × ℕ) → Frame V  -- an epoch, a value, and places of the keys with their clocks
 
+-- one entry of a log
 pub data Entry (V : Type 0) : Type 0 where
   Did : ℕ → Entry V  -- a change, after which the own clock is this
   Took : ℕ → Frame V → Entry V  -- from whom

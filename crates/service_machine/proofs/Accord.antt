@@ -1,0 +1,332 @@
+-- What is in flight is taken.
+use Rattle.std.proofs.Common.{◌≡◌, ℕ, suc, ◌<◌, ◌≤◌, Bool, true, List, [], ◌∷◌, length, Option, Some, None, ◌⊎◌, inl, inr, refl, sym, ap, ◌∙◌, subst, arith, ◌==◌, eqb-true}
+use Rattle.std.proofs.lemmas.Bool.{cond-true, cond-false, cases_Bool, eqb-false}
+use Rattle.propagation.specs.Words.{Has, Apart}
+use Rattle.propagation.specs.History.{edge, deps}
+use Rattle.propagation.specs.Stamps.{Stamps, clock_of, clocked, written}
+use Rattle.propagation.specs.Logs.{named_keys, Emission, Frame, Entry, Leg, taken, told, reply}
+use Rattle.propagation.specs.Logs.Frame.{Subscribe, Unsubscribe, Sources, Changed}
+use Rattle.propagation.specs.Logs.Entry.{Did, Took, Computed}
+use Rattle.propagation.specs.Rules.{announced, carried, Acceptable}
+use Rattle.propagation.proofs.Frames.{told-sources}
+use Rattle.service_machine.specs.States.{Slot, State, slot_at, with_slot, advanced, advance_with, announced_to, put, with_clock, keys_of, known}
+use Rattle.service_machine.specs.Turning.{Choice, inputs}
+use Rattle.service_machine.specs.Turning.Choice.{Advance, Compute, Empty, Lags, Still}
+use Rattle.service_machine.specs.Steps.{took, took_log, turned, turned_to, turn_log, turn_log_to, chosen, computed, computed_log, emission, done, done_log, done_with, done_log_with, redefined, rewired_log, NotBack, IsUnder, IsWhole, IsBelow, Accepts, picks}
+use Rattle.service_machine.specs.Fitting.{Kept, Fits}
+use Rattle.service_machine.specs.Accord.{Accord}
+use Rattle.service_machine.proofs.Slots.{slot_at-sender, with_slot-this, with_slot-other, advanced-sender}
+use Rattle.service_machine.proofs.Sending.{Sends, sends-to, sends-reports}
+use Rattle.service_machine.proofs.Sending.Sends.{none, one}
+use Rattle.service_machine.proofs.Readers.{with_clock-this, with_clock-other}
+use Rattle.service_machine.proofs.Taking.{taken-this, taken-other}
+use Rattle.service_machine.proofs.Changing.{slot-is, sends-more}
+
+-- ---- a frame that may be taken is accepted
+
+announced-some : {V : Type 0} (e : ℕ) (fs : List (Frame V)) → announced (Some e) fs ≡ None → ⊥
+announced-some e [] h = cc h
+announced-some e (Subscribe i ∷ fs) h = announced-some e fs h
+announced-some e (Unsubscribe i ∷ fs) h = announced-some e fs h
+announced-some e (Sources i ks ∷ fs) h = cc h
+announced-some e (Changed i v pairs ∷ fs) h = announced-some e fs h
+
+below-known : (a b : Option ℕ) (i j : ℕ) → a ≡ Some i → b ≡ Some j → i < j → IsBelow a b
+below-known None b i j x y lt = absurd (cc x)
+below-known (Some k) None i j x y lt = absurd (cc y)
+below-known (Some k) (Some l) i j x y lt = let m : k ≡ i = cc x in let o : l ≡ j = cc y in omega arith
+
+not-back : (o : Option (ℕ × List ℕ)) (e : ℕ) → ((a : ℕ × List ℕ) → o ≡ Some a → a.0 ≤ e) → NotBack o e
+not-back None e all = tt
+not-back (Some a) e all = all a refl
+
+is-whole : (o : Option Stamps) (ks : List ℕ) (pairs : List (ℕ × ℕ)) → ((S : Stamps) × (o ≡ Some S)) ⊎ (length pairs ≡ length ks) → IsWhole o ks pairs
+is-whole None ks pairs (inl w) = absurd (cc w.1)
+is-whole None ks pairs (inr e) = e
+is-whole (Some S) ks pairs h = tt
+
+module _ {V D : Type 0} (g : Leg V D) (low : Stamps) (s : State V D) (log : List (Entry V)) (k : Kept g low s log) (a : Accord g s.id s.slots s.past log) (rank : ℕ → ℕ) (ranks : ℕ → Option ℕ) (has_type : ℕ → V → Bool) (p : ℕ) where
+  abbrev pub Knows : Frame V → Type 0
+  Knows f = (q : ℕ) → (q ≡ s.id) ⊎ ((q ≡ p) ⊎ Has (named_keys f) q) → ranks q ≡ Some (rank q)
+
+  below : (f : Frame V) → Knows f → (i j : ℕ) → (i ≡ s.id) ⊎ ((i ≡ p) ⊎ Has (named_keys f) i) → (j ≡ s.id) ⊎ ((j ≡ p) ⊎ Has (named_keys f) j) → rank i < rank j → IsBelow (ranks i) (ranks j)
+  below f knows i j x y lt = below-known (ranks i) (ranks j) (rank i) (rank j) (knows i x) (knows j y) lt
+
+  pub acceptable-accepted : (f : Frame V) → Knows f → ((e : ℕ) (v : V) (pairs : List (ℕ × ℕ)) → f ≡ Changed e v pairs → has_type p v ≡ true) → Acceptable g rank s.id p (taken p log) f → Accepts ranks has_type p f s
+  acceptable-accepted (Subscribe e) knows typed (lower, absent, start, earlier) = (
+    below (Subscribe e) knows s.id p (inl refl) (inr (inl refl)) lower,
+    sym (k.read_by p) ∙ absent,
+    elim (a.reached p) [
+      | inl le ↦ (let l : clock_of s.past p ≤ g.start p = le in omega arith)
+      | inr h ↦ earlier (clock_of s.past p) h
+    ],
+  )
+  acceptable-accepted (Unsubscribe e) knows typed reads = sym (k.read_by p) ∙ reads
+  acceptable-accepted (Sources e ks) knows typed (lower, self, keys, epoch, back, rise) = (
+    below (Sources e ks) knows p s.id (inr (inl refl)) (inl refl) lower,
+    self,
+    λ q h. elim (keys q h) [
+      | inl same ↦ inl same
+      | inr lt ↦ inr (below (Sources e ks) knows q p (inr (inr h)) (inr (inl refl)) lt)
+    ],
+    rise,
+    not-back (slot_at s.slots p).announced e (go (announced (edge g.book s.id p (g.start s.id)) (taken p log)) refl),
+  )
+    where
+      go : (o : Option ℕ) → announced (edge g.book s.id p (g.start s.id)) (taken p log) ≡ o → (b : ℕ × List ℕ) → (slot_at s.slots p).announced ≡ Some b → b.0 ≤ e
+      go None is b found =
+          elim epoch [
+            | inl first ↦ absurd (announced-some e (taken p log) (ap (λ o. announced o (taken p log)) (sym first) ∙ is))
+            | inr later ↦ (let lt : g.start s.id < e = later in let le : b.0 ≤ g.start s.id = a.none p is b found in omega arith)
+          ]
+      go (Some j) is b found =
+          let w = a.some p j is in
+          let same : (j, w.keys) ≡ b = (let eq : Some (j, w.keys) ≡ Some b = sym w.are ∙ found in cc eq) in
+          let epoch_is : j ≡ b.0 = ap (λ (x : ℕ × List ℕ). x.0) same in
+          let le : j ≤ e = back j is in
+          omega arith
+  acceptable-accepted (Changed e v pairs) knows typed (lower, last, within, whole, rise) =
+      let w = a.some p e last in (
+        below (Changed e v pairs) knows p s.id (inr (inl refl)) (inl refl) lower,
+        typed e v pairs refl,
+        subst (λ o. IsUnder o e) (sym w.are) refl,
+        λ x h. subst (λ o. x.0 < length (keys_of o)) (sym w.are) (subst (λ c. x.0 < c) (sym w.as_many) (within x.0 x.1 h)),
+        is-whole (slot_at s.slots p).carried (keys_of (slot_at s.slots p).announced) pairs (elim whole [
+          | inl some ↦ inl (w.clocked some.0)
+          | inr all ↦ inr (all ∙ sym w.as_many ∙ ap (λ o. length (keys_of o)) (sym w.are))
+        ]),
+        rise,
+      )
+
+-- ---- each step keeps the accord
+
+module _ {V D : Type 0} (g : Leg V D) (n : ℕ) where
+  -- where neither keys nor carried stamps change
+  pub accord-same : (a b : List (Slot V)) (past : List (ℕ × ℕ)) (log more : List (Entry V)) → ((p : ℕ) → (slot_at b p).announced ≡ (slot_at a p).announced) → ((p : ℕ) → (slot_at b p).carried ≡ (slot_at a p).carried) → ((p : ℕ) → taken p more ≡ taken p log) →
+      Accord g n a past log → Accord g n b past more
+  accord-same a b past log more same_keys same_clocks same_taken k = record {
+    some = λ p e is. (
+        let w = k.some p e (ap (λ (fs : List (Frame V)). announced (edge g.book n p (g.start n)) fs) (sym (same_taken p)) ∙ is) in
+        record {
+          keys = w.keys;
+          are = same_keys p ∙ w.are;
+          as_many = w.as_many ∙ ap (λ (fs : List (Frame V)). length (told (g.hears n p e) e fs)) (sym (same_taken p));
+          clocked = λ yes. (let v = w.clocked (ap (λ (fs : List (Frame V)). carried (edge g.book n p (g.start n)) fs) (sym (same_taken p)) ∙ yes) in (v.0, same_clocks p ∙ v.1));
+        }
+        );
+    none = λ p is x found. k.none p (ap (λ (fs : List (Frame V)). announced (edge g.book n p (g.start n)) fs) (sym (same_taken p)) ∙ is) x (sym (same_keys p) ∙ found);
+    reached = λ q. elim (k.reached q) [ inl le ↦ inl le | inr h ↦ inr (subst (λ (fs : List (Frame V)). Has fs (Subscribe (clock_of past q))) (sym (same_taken q)) h) ];
+  }
+
+  pub taken-more : (p : ℕ) (log more : List (Entry V)) → Sends log more → taken p more ≡ taken p log
+  taken-more p log more none = refl
+  taken-more p log more (one h) = taken-more p log _ h
+
+  advance-keys : (s : Slot V) (queue : List (ℕ × Emission V)) → (advance_with s queue).announced ≡ s.announced
+  advance-keys s [] = refl
+  advance-keys s (x ∷ rest) = refl
+
+  advance-clocks : (s : Slot V) (queue : List (ℕ × Emission V)) → (advance_with s queue).carried ≡ s.carried
+  advance-clocks s [] = refl
+  advance-clocks s (x ∷ rest) = refl
+
+  -- what a slot and the others share stays as that slot is replaced
+  slot-same : {A : Type 0} (f : Slot V → A) (slots : List (Slot V)) (p : ℕ) (new : Slot V) → new.sender ≡ p → f new ≡ f (slot_at slots p) → (q : ℕ) → f (slot_at (with_slot new slots) q) ≡ f (slot_at slots q)
+  slot-same f slots p new is same q =
+      elim (cases_Bool (p == q)) [
+        | inl t ↦ (let e : p ≡ q = eqb-true p q t in ap f (with_slot-this new slots q (is ∙ e)) ∙ same ∙ ap (λ j. f (slot_at slots j)) e)
+        | inr t ↦ ap f (with_slot-other new slots q (λ e. eqb-false p q t (sym is ∙ e)))
+      ]
+
+  length-written : (place : ℕ) (pairs : List (ℕ × ℕ)) (S : Stamps) → length (written place pairs S) ≡ length S
+  length-written place pairs [] = refl
+  length-written place pairs (x ∷ rest) = ap suc (length-written (suc place) pairs rest)
+
+  length-clocked : (ks : List ℕ) (S : Stamps) → length (clocked ks S) ≡ length ks
+  length-clocked [] S = refl
+  length-clocked (q ∷ qs) S = ap suc (length-clocked qs S)
+
+  length-told : (first : Stamps) (i e : ℕ) (v : V) (pairs : List (ℕ × ℕ)) (fs : List (Frame V)) → length (told first i (Changed e v pairs ∷ fs)) ≡ length (told first i fs)
+  length-told first i e v pairs fs =
+      elim (cases_Bool (e == i)) [
+        | inl t ↦ ap (λ (S : Stamps). length S) (cond-true (e == i) (written 0 pairs (told first i fs)) (told first i fs) t) ∙ length-written 0 pairs (told first i fs)
+        | inr t ↦ ap (λ (S : Stamps). length S) (cond-false (e == i) (written 0 pairs (told first i fs)) (told first i fs) t)
+      ]
+
+  -- a frame of p and the slot after it
+  accord-at : (slots : List (Slot V)) (past : List (ℕ × ℕ)) (log : List (Entry V)) (p : ℕ) (f : Frame V) (new : Slot V) → new.sender ≡ p →
+      ((e : ℕ) → announced (edge g.book n p (g.start n)) (f ∷ taken p log) ≡ Some e →
+      (ks : List ℕ) × (new.announced ≡ Some (e, ks)) × (length ks ≡ length (told (g.hears n p e) e (f ∷ taken p log))) × (carried (edge g.book n p (g.start n)) (f ∷ taken p log) ≡ true → (S : Stamps) × (new.carried ≡ Some S))) →
+      (announced (edge g.book n p (g.start n)) (f ∷ taken p log) ≡ None → (a : ℕ × List ℕ) → new.announced ≡ Some a → a.0 ≤ g.start n) →
+      Accord g n slots past log → Accord g n (with_slot new slots) past (Took p f ∷ log)
+  accord-at slots past log p f new is here nothing k = record {
+    some = λ q e found. elim (cases_Bool (p == q)) [
+      | inl t ↦ (let same : p ≡ q = eqb-true p q t in
+          let w = here e (subst (λ j. announced (edge g.book n j (g.start n)) (f ∷ taken j log) ≡ Some e) (sym same)
+          (ap (λ (fs : List (Frame V)). announced (edge g.book n q (g.start n)) fs) (sym (taken-this p f log q same)) ∙ found)) in
+          let slot_is : slot_at (with_slot new slots) q ≡ new = with_slot-this new slots q (is ∙ same) in
+          record {
+            keys = w.0;
+            are = ap (λ (x : Slot V). x.announced) slot_is ∙ w.1;
+            as_many = w.2 ∙ ap (λ j. length (told (g.hears n j e) e (f ∷ taken j log))) same ∙ ap (λ (fs : List (Frame V)). length (told (g.hears n q e) e fs)) (sym (taken-this p f log q same));
+            clocked = λ yes. (
+                let v = w.3 (subst (λ j. carried (edge g.book n j (g.start n)) (f ∷ taken j log) ≡ true) (sym same) (ap (λ (fs : List (Frame V)). carried (edge g.book n q (g.start n)) fs) (sym (taken-this p f log q same)) ∙ yes)) in
+                (v.0, ap (λ (x : Slot V). x.carried) slot_is ∙ v.1)
+                );
+          })
+      | inr t ↦ (let ne : p ≡ q → ⊥ = eqb-false p q t in
+          let w = k.some q e (ap (λ (fs : List (Frame V)). announced (edge g.book n q (g.start n)) fs) (sym (taken-other p f log q ne)) ∙ found) in
+          let slot_is : slot_at (with_slot new slots) q ≡ slot_at slots q = with_slot-other new slots q (λ x. ne (sym is ∙ x)) in
+          record {
+            keys = w.keys;
+            are = ap (λ (x : Slot V). x.announced) slot_is ∙ w.are;
+            as_many = w.as_many ∙ ap (λ (fs : List (Frame V)). length (told (g.hears n q e) e fs)) (sym (taken-other p f log q ne));
+            clocked = λ yes. (let v = w.clocked (ap (λ (fs : List (Frame V)). carried (edge g.book n q (g.start n)) fs) (sym (taken-other p f log q ne)) ∙ yes) in (v.0, ap (λ (x : Slot V). x.carried) slot_is ∙ v.1));
+          })
+    ];
+    none = λ q gone a found. elim (cases_Bool (p == q)) [
+      | inl t ↦ (let same : p ≡ q = eqb-true p q t in
+          nothing (subst (λ j. announced (edge g.book n j (g.start n)) (f ∷ taken j log) ≡ None) (sym same) (ap (λ (fs : List (Frame V)). announced (edge g.book n q (g.start n)) fs) (sym (taken-this p f log q same)) ∙ gone)) a
+          (sym (ap (λ (x : Slot V). x.announced) (with_slot-this new slots q (is ∙ same))) ∙ found))
+      | inr t ↦ (let ne : p ≡ q → ⊥ = eqb-false p q t in
+          k.none q (ap (λ (fs : List (Frame V)). announced (edge g.book n q (g.start n)) fs) (sym (taken-other p f log q ne)) ∙ gone) a
+          (sym (ap (λ (x : Slot V). x.announced) (with_slot-other new slots q (λ x. ne (sym is ∙ x)))) ∙ found))
+    ];
+    reached = λ q. elim (k.reached q) [
+      | inl le ↦ inl le
+      | inr h ↦ inr (elim (cases_Bool (p == q)) [
+        | inl t ↦ subst (λ (fs : List (Frame V)). Has fs (Subscribe (clock_of past q))) (sym (taken-this p f log q (eqb-true p q t))) (inr h)
+        | inr t ↦ subst (λ (fs : List (Frame V)). Has fs (Subscribe (clock_of past q))) (sym (taken-other p f log q (eqb-false p q t))) h
+      ])
+    ];
+  }
+
+  -- one subscribes
+  accord-subscribed : (slots : List (Slot V)) (past : List (ℕ × ℕ)) (log : List (Entry V)) (p e : ℕ) → Accord g n slots past log → Accord g n slots (with_clock p e past) (Took p (Subscribe e) ∷ log)
+  accord-subscribed slots past log p e k = record {
+    some = λ q i found. (
+        let w = k.some q i (sym (same_announced q) ∙ found) in
+        record {
+          keys = w.keys;
+          are = w.are;
+          as_many = w.as_many ∙ sym (ap (λ (S : Stamps). length S) (same_told q i));
+          clocked = λ yes. w.clocked (sym (same_carried q) ∙ yes);
+        }
+        );
+    none = λ q gone a found. k.none q (sym (same_announced q) ∙ gone) a found;
+    reached = λ q. elim (cases_Bool (p == q)) [
+      | inl t ↦ (let same : p ≡ q = eqb-true p q t in
+          let last : clock_of (with_clock p e past) q ≡ e = subst (λ j. clock_of (with_clock p e past) j ≡ e) same (with_clock-this p e past) in
+          inr (subst (λ c. Has (taken q (Took p (Subscribe e) ∷ log)) (Subscribe c)) (sym last) (subst (λ (fs : List (Frame V)). Has fs (Subscribe e)) (sym (taken-this p (Subscribe e) log q same)) (inl refl))))
+      | inr t ↦ (let ne : p ≡ q → ⊥ = eqb-false p q t in
+          let last : clock_of (with_clock p e past) q ≡ clock_of past q = with_clock-other p e past q ne in
+          elim (k.reached q) [
+            | inl le ↦ inl (let l : clock_of past q ≤ g.start q = le in omega arith)
+            | inr h ↦ inr (subst (λ c. Has (taken q (Took p (Subscribe e) ∷ log)) (Subscribe c)) (sym last) (subst (λ (fs : List (Frame V)). Has fs (Subscribe (clock_of past q))) (sym (taken-other p (Subscribe e) log q ne)) h))
+          ])
+    ];
+  }
+    where
+      same_announced : (q : ℕ) → announced (edge g.book n q (g.start n)) (taken q (Took p (Subscribe e) ∷ log)) ≡ announced (edge g.book n q (g.start n)) (taken q log)
+      same_announced q =
+          elim (cases_Bool (p == q)) [
+            | inl t ↦ ap (λ (fs : List (Frame V)). announced (edge g.book n q (g.start n)) fs) (taken-this p (Subscribe e) log q (eqb-true p q t))
+            | inr t ↦ ap (λ (fs : List (Frame V)). announced (edge g.book n q (g.start n)) fs) (taken-other p (Subscribe e) log q (eqb-false p q t))
+          ]
+
+      same_carried : (q : ℕ) → carried (edge g.book n q (g.start n)) (taken q (Took p (Subscribe e) ∷ log)) ≡ carried (edge g.book n q (g.start n)) (taken q log)
+      same_carried q =
+          elim (cases_Bool (p == q)) [
+            | inl t ↦ ap (λ (fs : List (Frame V)). carried (edge g.book n q (g.start n)) fs) (taken-this p (Subscribe e) log q (eqb-true p q t))
+            | inr t ↦ ap (λ (fs : List (Frame V)). carried (edge g.book n q (g.start n)) fs) (taken-other p (Subscribe e) log q (eqb-false p q t))
+          ]
+
+      same_told : (q i : ℕ) → told (g.hears n q i) i (taken q (Took p (Subscribe e) ∷ log)) ≡ told (g.hears n q i) i (taken q log)
+      same_told q i =
+          elim (cases_Bool (p == q)) [
+            | inl t ↦ ap (λ (fs : List (Frame V)). told (g.hears n q i) i fs) (taken-this p (Subscribe e) log q (eqb-true p q t))
+            | inr t ↦ ap (λ (fs : List (Frame V)). told (g.hears n q i) i fs) (taken-other p (Subscribe e) log q (eqb-false p q t))
+          ]
+
+  -- one no longer reads
+  accord-unsubscribed : (slots : List (Slot V)) (past : List (ℕ × ℕ)) (log : List (Entry V)) (p e : ℕ) → Accord g n slots past log → Accord g n slots past (Took p (Unsubscribe e) ∷ log)
+  accord-unsubscribed slots past log p e k = record {
+    some = λ q i found. elim (cases_Bool (p == q)) [
+      | inl t ↦ (let there : taken q (Took p (Unsubscribe e) ∷ log) ≡ Unsubscribe e ∷ taken q log = taken-this p (Unsubscribe e) log q (eqb-true p q t) in
+          let w = k.some q i (sym (ap (λ (fs : List (Frame V)). announced (edge g.book n q (g.start n)) fs) there) ∙ found) in
+          record { keys = w.keys; are = w.are; as_many = w.as_many ∙ sym (ap (λ (fs : List (Frame V)). length (told (g.hears n q i) i fs)) there); clocked = λ yes. w.clocked (sym (ap (λ (fs : List (Frame V)). carried (edge g.book n q (g.start n)) fs) there) ∙ yes) })
+      | inr t ↦ (let there : taken q (Took p (Unsubscribe e) ∷ log) ≡ taken q log = taken-other p (Unsubscribe e) log q (eqb-false p q t) in
+          let w = k.some q i (sym (ap (λ (fs : List (Frame V)). announced (edge g.book n q (g.start n)) fs) there) ∙ found) in
+          record { keys = w.keys; are = w.are; as_many = w.as_many ∙ sym (ap (λ (fs : List (Frame V)). length (told (g.hears n q i) i fs)) there); clocked = λ yes. w.clocked (sym (ap (λ (fs : List (Frame V)). carried (edge g.book n q (g.start n)) fs) there) ∙ yes) })
+    ];
+    none = λ q gone a found. elim (cases_Bool (p == q)) [
+      | inl t ↦ k.none q (sym (ap (λ (fs : List (Frame V)). announced (edge g.book n q (g.start n)) fs) (taken-this p (Unsubscribe e) log q (eqb-true p q t))) ∙ gone) a found
+      | inr t ↦ k.none q (sym (ap (λ (fs : List (Frame V)). announced (edge g.book n q (g.start n)) fs) (taken-other p (Unsubscribe e) log q (eqb-false p q t))) ∙ gone) a found
+    ];
+    reached = λ q. elim (k.reached q) [
+      | inl le ↦ inl le
+      | inr h ↦ inr (elim (cases_Bool (p == q)) [
+        | inl t ↦ subst (λ (fs : List (Frame V)). Has fs (Subscribe (clock_of past q))) (sym (taken-this p (Unsubscribe e) log q (eqb-true p q t))) (inr h)
+        | inr t ↦ subst (λ (fs : List (Frame V)). Has fs (Subscribe (clock_of past q))) (sym (taken-other p (Unsubscribe e) log q (eqb-false p q t))) h
+      ])
+    ];
+  }
+
+  accord-took : (ranks : ℕ → Option ℕ) (has_type : ℕ → V → Bool) (s : State V D) (log : List (Entry V)) (p : ℕ) (f : Frame V) → Accepts ranks has_type p f s → Accord g n s.slots s.past log → Accord g n (took p f s).slots (took p f s).past (Took p f ∷ log)
+  accord-took ranks has_type s log p (Subscribe e) ok k = accord-subscribed s.slots s.past log p e k
+  accord-took ranks has_type s log p (Unsubscribe e) ok k = accord-unsubscribed s.slots s.past log p e k
+  accord-took ranks has_type s log p (Sources e ks) ok k =
+      accord-at s.slots s.past log p (Sources e ks) (announced_to e ks (slot_at s.slots p)) (slot_at-sender s.slots p)
+      (λ i found. (
+      let same : e ≡ i = cc found in (
+        ks,
+        ap (λ j. Some (j, ks)) same,
+        subst (λ j. length ks ≡ length (told (g.hears n p j) j (Sources e ks ∷ taken p log))) same
+            (sym (ap (λ (S : Stamps). length S) (told-sources (g.hears n p e) e ks (taken p log)) ∙ length-clocked ks (told (g.hears n p e) e (taken p log)))),
+        λ yes. absurd (cc yes),
+      )
+      ))
+      (λ gone a found. absurd (cc gone)) k
+  accord-took ranks has_type s log p (Changed e v pairs) ok k =
+      accord-at s.slots s.past log p (Changed e v pairs) (put s.own e v pairs (slot_at s.slots p)) (slot_at-sender s.slots p)
+      (λ i found. (
+      let w = k.some p i found in
+      (w.keys, w.are, w.as_many ∙ sym (length-told (g.hears n p i) i e v pairs (taken p log)), λ yes. (written 0 pairs (known (keys_of (slot_at s.slots p).announced) (slot_at s.slots p).carried), refl))
+      ))
+      (λ gone a found. k.none p gone a found) k
+
+  pub accord-took_log : (ranks : ℕ → Option ℕ) (has_type : ℕ → V → Bool) (s : State V D) (log : List (Entry V)) (p : ℕ) (f : Frame V) → Accepts ranks has_type p f s → Accord g n s.slots s.past log → Accord g n (took p f s).slots (took p f s).past (took_log p f s log)
+  accord-took_log ranks has_type s log p f ok k =
+      accord-same (took p f s).slots (took p f s).slots (took p f s).past (Took p f ∷ log) (took_log p f s log) (λ q. refl) (λ q. refl) (λ q. taken-more q (Took p f ∷ log) (took_log p f s log) (sends-to p (reply f s.last) (Took p f ∷ log)))
+      (accord-took ranks has_type s log p f ok k)
+
+  pub accord-turned : (meaning : D → List V → V) (s : State V D) (log : List (Entry V)) → Accord g n s.slots s.past log → Accord g n (turned meaning s).slots (turned meaning s).past (turn_log meaning s log)
+  accord-turned meaning s log k = go (chosen s)
+    where
+      by : (o : Option D) → Accord g n (computed meaning s o).slots (computed meaning s o).past (computed_log meaning s o log)
+      by None = k
+      by (Some d) =
+          accord-same s.slots s.slots s.past log (computed_log meaning s (Some d) log) (λ q. refl) (λ q. refl)
+          (λ q. taken-more q (Computed (emission meaning s d).value (emission meaning s d).stamps (picks (inputs s)) ∷ log) (computed_log meaning s (Some d) log) (sends-reports s.readers (emission meaning s d) (Computed (emission meaning s d).value (emission meaning s d).stamps (picks (inputs s)) ∷ log))) k
+
+      go : (c : Choice) → Accord g n (turned_to meaning s c).slots (turned_to meaning s c).past (turn_log_to meaning s c log)
+      go (Advance p) =
+          accord-same s.slots (with_slot (advanced (slot_at s.slots p)) s.slots) s.past log log
+          (slot-same (λ (x : Slot V). x.announced) s.slots p (advanced (slot_at s.slots p)) (advanced-sender (slot_at s.slots p) (slot_at s.slots p).queue ∙ slot_at-sender s.slots p) (advance-keys (slot_at s.slots p) (slot_at s.slots p).queue))
+          (slot-same (λ (x : Slot V). x.carried) s.slots p (advanced (slot_at s.slots p)) (advanced-sender (slot_at s.slots p) (slot_at s.slots p).queue ∙ slot_at-sender s.slots p) (advance-clocks (slot_at s.slots p) (slot_at s.slots p).queue))
+          (λ q. refl) k
+      go Compute = by s.by
+      go (Empty p) = k
+      go (Lags p key) = k
+      go Still = k
+
+pub accord-done : {V D : Type 0} (g : Leg V D) (low : Stamps) (s : State V D) (log : List (Entry V)) → Fits g low s log → ((c : ℕ) → Apart (deps g.book s.id c)) → Accord g s.id s.slots s.past log → Accord g s.id (done g.book.names s).slots (done g.book.names s).past (done_log g.book.names s log)
+accord-done {V} {D} g low s log h apart k = go s.left refl
+  where
+    go : (ds : List D) → s.left ≡ ds → Accord g s.id (done_with g.book.names s ds).slots (done_with g.book.names s ds).past (done_log_with g.book.names s ds log)
+    go [] left = k
+    go (d ∷ rest) left =
+        accord-same g s.id s.slots (redefined d (g.book.names d) rest s).slots s.past log (rewired_log s.edges (suc s.own) (g.book.names d) log)
+        (λ q. ap (λ (x : Slot V). x.announced) (slot-is g low s log h apart d rest left q))
+        (λ q. ap (λ (x : Slot V). x.carried) (slot-is g low s log h apart d rest left q))
+        (λ q. taken-more g s.id q (Did (suc s.own) ∷ log) (rewired_log s.edges (suc s.own) (g.book.names d) log) (sends-more g low s log h apart d rest left)) k

@@ -1,0 +1,11 @@
+pub mod States
+pub mod Turning
+pub mod Steps
+pub mod Fitting
+pub mod Running
+pub mod Openings
+pub mod Accord
+pub mod Laws
+pub mod Systems
+pub mod Refusing
+pub mod Nodes

@@ -1,0 +1,89 @@
+//! The protocol of one service as a pure machine: its state, its steps, and the refusals of a frame; and many of them together.
+//! Each function does nothing. Its contract is a promise over every type of values `V` and of definitions `D`.
+//! The definitions are in specs/, and docs/MACHINE.md says which call of the code mirrors which step.
+#![tactic(auto)]
+
+ghost use Rattle.service_machine.specs.Laws.{OpeningsFit, StepsFit, TurnsRest, MovesAreKept, StampsGoForth, NumbersAreSmall, FramesAreTaken, AccordIsKept, QuietByTurns, RestByQuiet, LegsOpen};
+ghost use Rattle.service_machine.specs.Refusing.{RefusalsAreExact};
+ghost use Rattle.service_machine.specs.Nodes.{NodesFit};
+ghost use Rattle.service_machine.specs.Systems.{SchedulesAreLegal, QuietSystemsAreSettled, SystemsGoOn};
+
+/// A leg that begins at rest fits.
+pub fn openings_fit<V, D>()
+    ensures { OpeningsFit V D }
+{}
+
+/// Every step keeps the state what the log makes of it, and the log in the rules.
+pub fn steps_fit<V, D>()
+    ensures { StepsFit V D }
+{}
+
+/// A node keeps this of itself without knowing the leg.
+pub fn nodes_fit<V, D>()
+    ensures { NodesFit V D }
+{}
+
+/// Where a turn has nothing to do, the service rests.
+pub fn turns_rest<V, D>()
+    ensures { TurnsRest V D }
+{}
+
+/// Each move takes one value that waited.
+pub fn moves_are_kept<V, D>()
+    ensures { MovesAreKept V D }
+{}
+
+/// The stamps of emissions never fall on a key.
+pub fn stamps_go_forth<V, D>()
+    ensures { StampsGoForth V D }
+{}
+
+/// The numbers of heads are no greater than the log is long.
+pub fn numbers_are_small<V, D>()
+    ensures { NumbersAreSmall V D }
+{}
+
+/// A frame is accepted exactly where no test fails.
+pub fn refusals_are_exact<V, D>()
+    ensures { RefusalsAreExact V D }
+{}
+
+/// What is in flight is accepted, where each keeps the rules.
+pub fn frames_are_taken<V, D>()
+    ensures { FramesAreTaken V D }
+{}
+
+/// Every step keeps what that asks of a service.
+pub fn accord_is_kept<V, D>()
+    ensures { AccordIsKept V D }
+{}
+
+/// Where no turn of any service has anything to do and nothing is in flight, the network is quiet.
+pub fn quiet_by_turns<V, D>()
+    ensures { QuietByTurns V D }
+{}
+
+/// In a quiet network a service whose turn has nothing to do is at rest.
+pub fn rest_by_quiet<V, D>()
+    ensures { RestByQuiet V D }
+{}
+
+/// After a quiet leg, a service at rest begins the next one as the network's opening says.
+pub fn legs_open<V, D>()
+    ensures { LegsOpen V D }
+{}
+
+/// Whatever the schedule, a network of services stays legal.
+pub fn schedules_are_legal<V, D>()
+    ensures { SchedulesAreLegal V D }
+{}
+
+/// And where none of them has anything to do, it is settled.
+pub fn quiet_systems_are_settled<V, D>()
+    ensures { QuietSystemsAreSettled V D }
+{}
+
+/// A network fits when it begins and, after a leg that ends quiet, when the next one begins.
+pub fn systems_go_on<V, D>()
+    ensures { SystemsGoOn V D }
+{}
