@@ -4,14 +4,22 @@
 
 mod errors;
 mod list;
+mod memory_sink;
+mod memory_source;
 mod numbers;
+mod std_streams;
 mod steps;
+mod streams;
 mod text;
 mod value;
 
 pub use errors::{Failed, OutOfMemory};
 pub use list::{Bytes, Clocks, Ids, ListOf, Name, Names};
+pub use memory_sink::MemorySink;
+pub use memory_source::MemorySource;
 pub use numbers::{Clock, Rank, ServiceId};
+pub use std_streams::{StdSink, StdSource};
 pub use steps::Steps;
+pub use streams::{Sink, Source};
 pub use text::{LONGEST_TEXT, TextError, ValueText};
 pub use value::{Fault, Value, ValueType};
