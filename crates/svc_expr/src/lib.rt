@@ -1,0 +1,12 @@
+//! Expressions over whole numbers and texts: their trees, how they are written, their types and their meaning.
+//! A fault is a value like any other, so evaluation has no refusal but want of memory.
+#![tactic(auto)]
+
+mod boxed;
+mod copy;
+mod errors;
+mod expr;
+
+pub use boxed::Boxed;
+pub use errors::{ExprError, TypeErrorAt};
+pub use expr::{Expr, ExprKind, Op, Reading};
