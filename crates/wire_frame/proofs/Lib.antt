@@ -1,0 +1,4 @@
+pub mod Always
+pub mod Cutting
+pub mod Fronts
+pub mod Items

@@ -2,6 +2,16 @@
 //! in any pieces.
 #![tactic(auto)]
 
+mod cutter;
+mod errors;
+mod front;
 mod place_clock;
+mod shift;
+mod stream_laws;
+#[cfg(test)]
+mod tests;
 
+pub use cutter::Cutter;
+pub use errors::CutError;
 pub use place_clock::{PlaceClock, PlaceClocks};
+pub use stream_laws::{splits_always, splits_once, stream_comes_in_pieces};
