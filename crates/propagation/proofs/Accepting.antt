@@ -103,7 +103,7 @@ reading-from first (Changed i v pairs ∷ fs) e is = elim (reading-from first fs
 
 module _ {V D : Type 0} (g : Leg V D) (n p : ℕ) where
   -- whom n subscribes to is lower
-  subscribed-lower : (rank : ℕ → ℕ) → ((k c r : ℕ) → Has (deps g.book k c) r → rank r < rank k) → (e : ℕ) (log : List (Entry V)) → Has (owed g n p log) (Subscribe e) → rank p < rank n
+  pub subscribed-lower : (rank : ℕ → ℕ) → ((k c r : ℕ) → Has (deps g.book k c) r → rank r < rank k) → (e : ℕ) (log : List (Entry V)) → Has (owed g n p log) (Subscribe e) → rank p < rank n
   subscribed-lower rank falls e [] h = absurd h
   subscribed-lower rank falls e (Did c ∷ before) h = go (λ k. subscribed-lower rank falls e before k) (edge g.book n p (own g n before)) (edge g.book n p (suc (own g n before))) refl h
     where

@@ -19,6 +19,7 @@ pub mod WorkBound
 pub mod Legs
 pub mod Accepting
 pub mod Naming
+pub mod Upward
 pub mod Typing
 pub mod ChangeFrames
 pub mod OwnRow

@@ -18,6 +18,10 @@ pub mod Promises
 pub mod QuietLegs
 pub mod Sample
 pub mod Schedules
+pub mod Acting
+pub mod TurnsEnd
+pub mod Passes
+pub mod Draining
 pub mod Counting
 pub mod Refusing
 pub mod Nodes

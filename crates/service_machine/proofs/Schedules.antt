@@ -18,7 +18,7 @@ use Rattle.service_machine.specs.Turning.Choice.{Advance, Compute, Empty, Lags, 
 use Rattle.service_machine.specs.Steps.{turned, turned_to, turn_log, turn_log_to, done, done_with, done_log, done_log_with, rewired_log, took, took_log, chosen, computed, computed_log, emission, picks, Accepts}
 use Rattle.service_machine.specs.Fitting.{Fits}
 use Rattle.service_machine.specs.Accord.{Accord}
-use Rattle.service_machine.specs.Systems.{System, in_flight, changed_to, takes, happens, SystemFits, NoneTwice, KnowsBorn, SchedulesAreLegal, QuietSystemsAreSettled, IsQuiet, first_leg, SystemsGoOn}
+use Rattle.service_machine.specs.Systems.{System, Event, in_flight, changed_to, takes, happens, SystemFits, NoneTwice, KnowsBorn, SchedulesAreLegal, FlightsAreAccepted, QuietSystemsAreSettled, IsQuiet, first_leg, SystemsGoOn}
 use Rattle.service_machine.specs.Systems.Event.{Do, Take, Turn}
 use Rattle.service_machine.proofs.Sending.{Sends, sends-to, sends-reports}
 use Rattle.service_machine.proofs.Sending.Sends.{none, one}
@@ -144,49 +144,61 @@ module _ {V D : Type 0} (g : Leg V D) (rank : ℕ → ℕ) (low : ℕ → Stamps
       go (d ∷ rest) fits accord =
           quiet-step (done_with g.book.names s (d ∷ rest)) (Did (suc s.own)) (rewired_log s.edges (suc s.own) (g.book.names d) log) (h.ids n) fits accord (λ q. refl) (λ q. refl) (sends-rewired s.edges (suc s.own) (g.book.names d) log)
 
-  pub take-system : (ranks : ℕ → Option ℕ) (has_type : ℕ → V → Bool) → KnowsBorn g rank ranks →
-      ((n c : ℕ) (d : D) (vs : List V) → definition g.book n c ≡ Some d → AllZip (λ p v. has_type p v ≡ true) (g.book.names d) vs → has_type n (g.book.meaning d vs) ≡ true) →
-      (p : ℕ) (o : Option (Frame V)) → in_flight w.logs n p ≡ o → SystemFits g low (takes w n p o)
-  take-system ranks has_type knows sound p None is = h
-  take-system ranks has_type knows sound p (Some f) is =
-      stepped (took p f s) (took_log p f s log) (took-id p f s ∙ h.ids n) (took-fits g (low n) ranks has_type s log p f ok (h.fits n)) (accord-took_log g n ranks has_type s log p f ok (h.accord n)) comes
-      (λ q. sent-more q (Took p f ∷ log) (took_log p f s log) (sends-to p (reply f s.last) (Took p f ∷ log)))
-    where
-      next_is : IsOlderPart (f ∷ taken p log) (sent n (w.logs p))
-      next_is =
-          let (newer, parts) = h.legal.in_order n p in
-          subst (λ (fs : List (Frame V)). IsOlderPart (f ∷ taken p log) fs) parts (numbered-next newer (taken p log) f (ap (λ (fs : List (Frame V)). numbered fs (length (taken p log))) parts ∙ is))
+  module _ (p : ℕ) (f : Frame V) (is : in_flight w.logs n p ≡ Some f) where
+    next_is : IsOlderPart (f ∷ taken p log) (sent n (w.logs p))
+    next_is =
+        let (newer, parts) = h.legal.in_order n p in
+        subst (λ (fs : List (Frame V)). IsOlderPart (f ∷ taken p log) fs) parts (numbered-next newer (taken p log) f (ap (λ (fs : List (Frame V)). numbered fs (length (taken p log))) parts ∙ is))
 
-      names : (0 < now g.book n) × (0 < now g.book p) × ((q : ℕ) → Has (named_keys f) q → 0 < now g.book q)
-      names = frames_name_born V D g rank w.logs acc h.legal n p f (Has-older (f ∷ taken p log) (sent n (w.logs p)) f next_is (inl refl))
+    names : (0 < now g.book n) × (0 < now g.book p) × ((q : ℕ) → Has (named_keys f) q → 0 < now g.book q)
+    names = frames_name_born V D g rank w.logs acc h.legal n p f (Has-older (f ∷ taken p log) (sent n (w.logs p)) f next_is (inl refl))
 
-      ok : Accepts ranks has_type p f s
-      ok =
-          frames_are_taken V D g rank w.logs ranks has_type acc h.legal sound (low n) s
-          (subst (λ j. Fits g (low n) s (w.logs j)) (sym (h.ids n)) (h.fits n))
-          (subst (λ j. Accord g j s.slots s.past (w.logs j)) (sym (h.ids n)) (h.accord n)) p f
-          (subst (λ j. IsOlderPart (f ∷ taken p (w.logs j)) (sent j (w.logs p))) (sym (h.ids n)) next_is)
-          (λ q x. knows q (elim x [ inl e ↦ subst (λ j. 0 < now g.book j) (sym (e ∙ h.ids n)) names.0 | inr y ↦ elim y [ inl e ↦ subst (λ j. 0 < now g.book j) (sym e) names.1 | inr k ↦ names.2 q k ] ]))
+    -- the frame is accepted
+    pub accepted : (ranks : ℕ → Option ℕ) (has_type : ℕ → V → Bool) → KnowsBorn g rank ranks →
+        ((n c : ℕ) (d : D) (vs : List V) → definition g.book n c ≡ Some d → AllZip (λ p v. has_type p v ≡ true) (g.book.names d) vs → has_type n (g.book.meaning d vs) ≡ true) → Accepts ranks has_type p f s
+    accepted ranks has_type knows sound =
+        frames_are_taken V D g rank w.logs ranks has_type acc h.legal sound (low n) s
+        (subst (λ j. Fits g (low n) s (w.logs j)) (sym (h.ids n)) (h.fits n))
+        (subst (λ j. Accord g j s.slots s.past (w.logs j)) (sym (h.ids n)) (h.accord n)) p f
+        (subst (λ j. IsOlderPart (f ∷ taken p (w.logs j)) (sent j (w.logs p))) (sym (h.ids n)) next_is)
+        (λ q x. knows q (elim x [ inl e ↦ subst (λ j. 0 < now g.book j) (sym (e ∙ h.ids n)) names.0 | inr y ↦ elim y [ inl e ↦ subst (λ j. 0 < now g.book j) (sym e) names.1 | inr k ↦ names.2 q k ] ]))
 
-      comes : (q : ℕ) → IsOlderPart (taken q (took_log p f s log)) (sent n (w.logs q))
-      comes q =
-          elim (cases_Bool (p == q)) [
-            | inl t ↦ (let same : p ≡ q = eqb-true p q t in
-                subst (λ (fs : List (Frame V)). IsOlderPart fs (sent n (w.logs q))) (sym (taken-more g n q (Took p f ∷ log) (took_log p f s log) (sends-to p (reply f s.last) (Took p f ∷ log)) ∙ taken-this p f log q same))
-                (subst (λ j. IsOlderPart (f ∷ taken j log) (sent n (w.logs j))) same next_is))
-            | inr t ↦
-                subst (λ (fs : List (Frame V)). IsOlderPart fs (sent n (w.logs q))) (sym (taken-more g n q (Took p f ∷ log) (took_log p f s log) (sends-to p (reply f s.last) (Took p f ∷ log)) ∙ taken-other p f log q (eqb-false p q t)))
-                (h.legal.in_order n q)
-          ]
+    -- where each service is known by its rank, and every value has its type
+    ok : Accepts (λ q. Some (rank q)) (λ q v. true) p f s
+    ok = accepted (λ q. Some (rank q)) (λ q v. true) (λ q born. refl) (λ m c d vs is typed. refl)
+
+    comes : (q : ℕ) → IsOlderPart (taken q (took_log p f s log)) (sent n (w.logs q))
+    comes q =
+        elim (cases_Bool (p == q)) [
+          | inl t ↦ (let same : p ≡ q = eqb-true p q t in
+              subst (λ (fs : List (Frame V)). IsOlderPart fs (sent n (w.logs q))) (sym (taken-more g n q (Took p f ∷ log) (took_log p f s log) (sends-to p (reply f s.last) (Took p f ∷ log)) ∙ taken-this p f log q same))
+              (subst (λ j. IsOlderPart (f ∷ taken j log) (sent n (w.logs j))) same next_is))
+          | inr t ↦
+              subst (λ (fs : List (Frame V)). IsOlderPart fs (sent n (w.logs q))) (sym (taken-more g n q (Took p f ∷ log) (took_log p f s log) (sends-to p (reply f s.last) (Took p f ∷ log)) ∙ taken-other p f log q (eqb-false p q t)))
+              (h.legal.in_order n q)
+        ]
+
+    took-system : SystemFits g low (changed_to w n (took p f s) (took_log p f s log))
+    took-system =
+        stepped (took p f s) (took_log p f s log) (took-id p f s ∙ h.ids n) (took-fits g (low n) (λ q. Some (rank q)) (λ q v. true) s log p f ok (h.fits n)) (accord-took_log g n (λ q. Some (rank q)) (λ q v. true) s log p f ok (h.accord n)) comes
+        (λ q. sent-more q (Took p f ∷ log) (took_log p f s log) (sends-to p (reply f s.last) (Took p f ∷ log)))
+
+  pub take-system : (p : ℕ) (o : Option (Frame V)) → in_flight w.logs n p ≡ o → SystemFits g low (takes w n p o)
+  take-system p None is = h
+  take-system p (Some f) is = took-system p f is
+
+pub flights_are_accepted : (V D : Type 0) → FlightsAreAccepted V D
+flights_are_accepted V D g rank low w acc h ranks has_type knows sound n p f is = accepted g rank low acc w h n p f is ranks has_type knows sound
+
+-- each event keeps that
+pub event-system : {V D : Type 0} (g : Leg V D) (rank : ℕ → ℕ) (low : ℕ → Stamps) → Accepted g rank → NoneTwice g → (w : System V D) → SystemFits g low w → (e : Event) → SystemFits g low (happens g.book.names g.book.meaning w e)
+event-system g rank low acc apart w h (Do n) = do-system g rank low acc w h n apart
+event-system g rank low acc apart w h (Take n p) = take-system g rank low acc w h n p (in_flight w.logs n p) refl
+event-system g rank low acc apart w h (Turn n) = turn-system g rank low acc w h n
 
 pub schedules_are_legal : (V D : Type 0) → SchedulesAreLegal V D
-schedules_are_legal V D g rank low w acc apart h ranks has_type knows sound [] = h
-schedules_are_legal V D g rank low w acc apart h ranks has_type knows sound (Do n ∷ es) =
-    schedules_are_legal V D g rank low (happens g.book.names g.book.meaning w (Do n)) acc apart (do-system g rank low acc w h n apart) ranks has_type knows sound es
-schedules_are_legal V D g rank low w acc apart h ranks has_type knows sound (Take n p ∷ es) =
-    schedules_are_legal V D g rank low (happens g.book.names g.book.meaning w (Take n p)) acc apart (take-system g rank low acc w h n ranks has_type knows sound p (in_flight w.logs n p) refl) ranks has_type knows sound es
-schedules_are_legal V D g rank low w acc apart h ranks has_type knows sound (Turn n ∷ es) =
-    schedules_are_legal V D g rank low (happens g.book.names g.book.meaning w (Turn n)) acc apart (turn-system g rank low acc w h n) ranks has_type knows sound es
+schedules_are_legal V D g rank low w acc apart h [] = h
+schedules_are_legal V D g rank low w acc apart h (e ∷ es) = schedules_are_legal V D g rank low (happens g.book.names g.book.meaning w e) acc apart (event-system g rank low acc apart w h e) es
 
 module _ {V D : Type 0} (g : Leg V D) (rank : ℕ → ℕ) (low : ℕ → Stamps) (w : System V D) (acc : Accepted g rank) (h : SystemFits g low w) (old : (n q : ℕ) → clock_of (low n) q ≤ g.start q) (q : IsQuiet w) where
   quiet-is : Quiet g w.logs

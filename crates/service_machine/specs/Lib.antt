@@ -7,5 +7,6 @@ pub mod Openings
 pub mod Accord
 pub mod Laws
 pub mod Systems
+pub mod Draining
 pub mod Refusing
 pub mod Nodes

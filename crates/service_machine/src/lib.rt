@@ -6,7 +6,8 @@
 ghost use Rattle.service_machine.specs.Laws.{OpeningsFit, StepsFit, TurnsRest, MovesAreKept, StampsGoForth, NumbersAreSmall, FramesAreTaken, AccordIsKept, QuietByTurns, RestByQuiet, LegsOpen};
 ghost use Rattle.service_machine.specs.Refusing.{RefusalsAreExact};
 ghost use Rattle.service_machine.specs.Nodes.{NodesFit};
-ghost use Rattle.service_machine.specs.Systems.{SchedulesAreLegal, QuietSystemsAreSettled, SystemsGoOn};
+ghost use Rattle.service_machine.specs.Draining.{PassesEndQuiet, PassesJoin, TurnsEnd, DrainEndsQuiet};
+ghost use Rattle.service_machine.specs.Systems.{SchedulesAreLegal, FlightsAreAccepted, QuietSystemsAreSettled, SystemsGoOn};
 
 /// A leg that begins at rest fits.
 pub fn openings_fit<V, D>()
@@ -73,9 +74,14 @@ pub fn legs_open<V, D>()
     ensures { LegsOpen V D }
 {}
 
-/// Whatever the schedule, a network of services stays legal.
+/// Whatever the schedule, a system of services stays legal.
 pub fn schedules_are_legal<V, D>()
     ensures { SchedulesAreLegal V D }
+{}
+
+/// What is in flight between services that keep the rules is accepted.
+pub fn flights_are_accepted<V, D>()
+    ensures { FlightsAreAccepted V D }
 {}
 
 /// And where none of them has anything to do, it is settled.
@@ -86,4 +92,24 @@ pub fn quiet_systems_are_settled<V, D>()
 /// A network fits when it begins and, after a leg that ends quiet, when the next one begins.
 pub fn systems_go_on<V, D>()
     ensures { SystemsGoOn V D }
+{}
+
+/// A turn that takes a value or computes leaves fewer of them, so turns end.
+pub fn turns_end<V, D>()
+    ensures { TurnsEnd V D }
+{}
+
+/// Two passes over the services by rank, each of which acts until nothing is left for it, end quiet.
+pub fn passes_end_quiet<V, D>()
+    ensures { PassesEndQuiet V D }
+{}
+
+/// One pass after another is a pass over both, and each keeps the rules.
+pub fn passes_join<V, D>()
+    ensures { PassesJoin V D }
+{}
+
+/// The drain ends quiet.
+pub fn drain_ends_quiet<V, D>()
+    ensures { DrainEndsQuiet V D }
 {}
