@@ -1,6 +1,6 @@
 -- Two passes end quiet. After the first no change is left, and from then on whoever acts sends to services of higher ranks alone.
 -- So in the second pass, which goes by rank, a service for which nothing is left gets nothing new.
-use Rattle.std.proofs.Common.{◌≡◌, ℕ, ◌+◌, ◌<◌, ◌≤◌, Bool, false, List, [], ◌∷◌, length, None, ◌⊎◌, inl, inr, refl, sym, ap, ap₂, ◌∙◌, subst, arith, ◌==◌, eqb-true, eq-zero-or-pos}
+use Rattle.std.proofs.Common.{◌≡◌, ℕ, ◌+◌, ◌<◌, ◌≤◌, Bool, false, List, [], ◌∷◌, ◌++◌, length, None, ◌⊎◌, inl, inr, refl, sym, ap, ap₂, ◌∙◌, subst, arith, ◌==◌, eqb-true, eq-zero-or-pos}
 use Rattle.std.proofs.lemmas.Bool.{cases_Bool, eqb-false}
 use Rattle.propagation.specs.Words.{Has, numbered}
 use Rattle.propagation.specs.History.{deps, now}
