@@ -5,7 +5,7 @@
 
 ghost use Rattle.service_machine.specs.Laws.{OpeningsFit, StepsFit, TurnsRest, MovesAreKept, StampsGoForth, NumbersAreSmall, FramesAreTaken, AccordIsKept, QuietByTurns, RestByQuiet, LegsOpen};
 ghost use Rattle.service_machine.specs.Refusing.{RefusalsAreExact};
-ghost use Rattle.service_machine.specs.Nodes.{NodesFit};
+ghost use Rattle.service_machine.specs.Nodes.{NodesFit, NodesGather};
 ghost use Rattle.service_machine.specs.Draining.{PassesEndQuiet, PassesJoin, TurnsEnd, DrainEndsQuiet};
 ghost use Rattle.service_machine.specs.Systems.{SchedulesAreLegal, FlightsAreAccepted, QuietSystemsAreSettled, SystemsGoOn};
 
@@ -22,6 +22,11 @@ pub fn steps_fit<V, D>()
 /// A node keeps this of itself without knowing the leg.
 pub fn nodes_fit<V, D>()
     ensures { NodesFit V D }
+{}
+
+/// Nodes that took only what was sent to them make a system that fits.
+pub fn nodes_gather<V, D>()
+    ensures { NodesGather V D }
 {}
 
 /// Where a turn has nothing to do, the service rests.
