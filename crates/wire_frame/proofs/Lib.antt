@@ -2,3 +2,4 @@ pub mod Always
 pub mod Cutting
 pub mod Fronts
 pub mod Items
+pub mod Parts

@@ -1,2 +1,4 @@
 pub mod Cut
+pub mod Frames
+pub mod Parts
 pub mod Stream

@@ -4,8 +4,10 @@
 
 mod cutter;
 mod errors;
+mod frame;
 mod front;
 mod place_clock;
+mod reason;
 mod shift;
 mod stream_laws;
 #[cfg(test)]
@@ -13,5 +15,7 @@ mod tests;
 
 pub use cutter::Cutter;
 pub use errors::CutError;
+pub use frame::{Announced, Cargo, Delta, Frame};
 pub use place_clock::{PlaceClock, PlaceClocks};
+pub use reason::FrameReason;
 pub use stream_laws::{splits_always, splits_once, stream_comes_in_pieces};
