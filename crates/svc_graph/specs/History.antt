@@ -1,11 +1,13 @@
 -- The rows of a book, how a change grows one of them, and the book as the theory of propagation sees it.
-use Rattle.std.specs.Prelude.{ℕ, zero, suc, List, [], ◌∷◌, ◌++◌, ◌-◌, ◌==◌, not, map, filter, length, slice_get, Option, Some, None}
+use Rattle.std.specs.Prelude.{◌≡◌, ℕ, zero, suc, Bool, true, false, List, [], ◌∷◌, ◌++◌, ◌-◌, ◌==◌, not, map, filter, length, position, slice_get, slice_index_or, Option, Some, None}
+use Rattle.std.specs.Str.{bytes_eq}
 use Rattle.svc_graph.specs.declared.definition.Change.{Change}
 use Rattle.svc_graph.specs.declared.definition.Change.TheVariants.{Birth, Set, Add, Drop, Define}
 use Rattle.svc_graph.specs.declared.definition.Definition.{Definition}
 use Rattle.svc_graph.specs.declared.definition.Definition.TheVariants.{Input, Derived}
 use Rattle.svc_graph.specs.declared.kind.Kind.{Kind}
 use Rattle.svc_value.specs.declared.value.ValueType.{ValueType}
+use Rattle.svc_value.specs.declared.value.ValueType.TheVariants.{Int}
 
 -- what a book has of one service: its name, its rank and its type, and its accepted definitions, oldest first
 pub record Row : Type 0 where
@@ -37,6 +39,11 @@ next_definition before (Define formula) = Derived formula
 
 -- ---- rows
 
+-- whether the change is a birth
+abbrev pub is_birth : Change → Bool
+is_birth (Birth first) = true
+is_birth change = false
+
 -- the definition that a change brings after the last one; before there is one, only a birth brings any
 abbrev pub brought : Option Definition → Change → List Definition
 brought None (Birth first) = first ∷ []
@@ -57,15 +64,22 @@ changed (row ∷ rows) (suc n) change = row ∷ changed rows n change
 abbrev pub declared_row : List ℕ → ℕ → ValueType → Row
 declared_row name rank ty = record { name = name; rank = rank; ty = ty; history = [] }
 
--- the definitions of a row, none if it is missing
-abbrev pub history_in : Option Row → List Definition
-history_in None = []
-history_in (Some row) = row.history
+-- the row of service n; one without name or definitions if it is not declared
+abbrev pub row_at : List Row → ℕ → Row
+row_at rows n = slice_index_or rows n (declared_row [] 0 Int)
 
 -- the definitions of service n, none if it is not declared
 abbrev pub history_of : List Row → ℕ → List Definition
-history_of rows n = history_in (slice_get rows n)
+history_of rows n = (row_at rows n).history
+
+-- the rank and the type of a row
+abbrev pub kind_of : Row → Kind
+kind_of row = record { rank = row.rank; ty = row.ty }
 
 -- the ranks and the types of the services
 abbrev pub roster_of : List Row → List Kind
-roster_of rows = map (λ row. record { rank = row.rank; ty = row.ty }) rows
+roster_of rows = map kind_of rows
+
+-- the number of the service with this name, if it is declared
+abbrev pub place_of : List Row → List ℕ → Option ℕ
+place_of rows name = position (λ row. bytes_eq name row.name) rows

@@ -1,5 +1,5 @@
 -- How a history is kept: each expression once, and for each definition what it has besides.
-use Rattle.std.specs.Prelude.{◌≡◌, ℕ, Bool, true, List, map, nat_lt, length, slice_get, Option, Some, None}
+use Rattle.std.specs.Prelude.{◌≡◌, ℕ, Bool, true, ◌==◌, not, List, [], ◌∷◌, ◌++◌, map, filter, nat_lt, length, slice_get, Option, Some, None}
 use Rattle.std.specs.List.{list_all}
 use Rattle.svc_graph.specs.declared.definition.Definition.{Definition}
 use Rattle.svc_graph.specs.declared.definition.Definition.TheVariants as definition
@@ -29,5 +29,15 @@ is_within bodies (Input value) = true
 is_within bodies (Derived number members) = nat_lt number (length bodies)
 
 -- each does
-abbrev pub AllWithin : List Body → List Version → Type 0
-AllWithin bodies versions = list_all (is_within bodies) versions ≡ true
+pub record HasBodies (bodies : List Body) (versions : List Version) : Type 0 where
+  pub each : list_all (is_within bodies) versions ≡ true
+
+-- the version with one member more
+abbrev pub with_member : Version → ℕ → Version
+with_member (Input value) member = Input value
+with_member (Derived number members) member = Derived number (members ++ member ∷ [])
+
+-- the version without that member
+abbrev pub without_member : Version → ℕ → Version
+without_member (Input value) member = Input value
+without_member (Derived number members) member = Derived number (filter (λ p. not (p == member)) members)
