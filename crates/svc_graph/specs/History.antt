@@ -1,11 +1,15 @@
 -- The rows of a book, how a change grows one of them, and the book as the theory of propagation sees it.
-use Rattle.std.specs.Prelude.{◌≡◌, ℕ, zero, suc, Bool, true, false, List, [], ◌∷◌, ◌++◌, ◌-◌, ◌==◌, not, map, filter, length, position, slice_get, slice_index_or, Option, Some, None}
+use Rattle.std.specs.Prelude.{◌≡◌, ℕ, zero, suc, Bool, true, false, List, [], ◌∷◌, ◌++◌, ◌-◌, ◌==◌, not, map, filter, take, drop, length, position, slice_get, slice_index_or, Option, Some, None}
 use Rattle.std.specs.Str.{bytes_eq}
+use Rattle.propagation.specs.History.{Book}
+use Rattle.svc_expr.specs.Meaning.{meaning}
+use Rattle.svc_expr.specs.Tree.{tree_of}
 use Rattle.svc_graph.specs.declared.definition.Change.{Change}
 use Rattle.svc_graph.specs.declared.definition.Change.TheVariants.{Birth, Set, Add, Drop, Define}
 use Rattle.svc_graph.specs.declared.definition.Definition.{Definition}
 use Rattle.svc_graph.specs.declared.definition.Definition.TheVariants.{Input, Derived}
 use Rattle.svc_graph.specs.declared.kind.Kind.{Kind}
+use Rattle.svc_value.specs.declared.value.Value.{Value}
 use Rattle.svc_value.specs.declared.value.ValueType.{ValueType}
 use Rattle.svc_value.specs.declared.value.ValueType.TheVariants.{Int}
 
@@ -83,3 +87,14 @@ roster_of rows = map kind_of rows
 -- the number of the service with this name, if it is declared
 abbrev pub place_of : List Row → List ℕ → Option ℕ
 place_of rows name = position (λ row. bytes_eq name row.name) rows
+
+-- ---- the book as the theory sees it
+
+-- the meaning of a definition over its dependencies' values: those of the names, and then those of the members
+abbrev pub meaning_of : Definition → List Value → Value
+meaning_of (Input value) values = value
+meaning_of (Derived formula) values = meaning (tree_of formula.expr) (take (length formula.fixed) values) (drop (length formula.fixed) values)
+
+-- the definitions of the rows, each with its dependencies and its meaning
+abbrev pub theory : List Row → Book Value Definition
+theory rows = record { names = dependencies; meaning = meaning_of; history = history_of rows }

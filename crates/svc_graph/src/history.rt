@@ -80,11 +80,7 @@ fn without_member(
 }
 
 // The members but that one.
-fn others(
-    alloc: Global,
-    members: &[ServiceId],
-    member: ServiceId,
-) -> Result<Ids, OutOfMemory>
+fn others(alloc: Global, members: &[ServiceId], member: ServiceId) -> Result<Ids, OutOfMemory>
     ensures { IfOk result (λ kept. kept ≡ filter (λ p. not (p == member)) members.now) }
 {
     let kept: Vec<ServiceId> = members
@@ -157,7 +153,11 @@ impl History {
         ensures err { OnErr result (self.new ≡ self.old) }
     {
         let number = self.bodies.len();
-        let Formula { expr, fixed, members } = formula;
+        let Formula {
+            expr,
+            fixed,
+            members,
+        } = formula;
         self.bodies.push(Body { expr, fixed })?;
         self.versions.push(Version::Derived(number, members))?;
         Ok(())

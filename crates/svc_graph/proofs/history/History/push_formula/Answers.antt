@@ -1,4 +1,4 @@
-use Rattle.std.proofs.Common.{◌≡◌, ◌∙◌, sym}
+use Rattle.std.proofs.Common.{◌∙◌}
 use Rattle.svc_graph.proofs.Keeping.{HasBodies-more, HasBodies-formula, definitions-more, definitions-formula}
 use Rattle.svc_graph.proofs.Lists.{on_err}
 use Rattle.svc_graph.specs.declared.history.Body.{Body}
