@@ -7,6 +7,7 @@ pub mod Frames
 pub mod Opened
 pub mod Carried
 pub mod Central
+pub mod OneValue
 pub mod Truth
 pub mod Forth
 pub mod Edges

@@ -3,10 +3,15 @@
 //! The definitions are in specs/, and docs/THEORY.md says them in words.
 #![tactic(auto)]
 
-ghost use Rattle.propagation.specs.Laws.{ComputationsAreTrue, EmissionsGoForth, QuietIsSettled, WorkIsBounded, LegalIsKept, LegsGoOn, ReadersAreTold, FramesAreAccepted, ValuesAreTyped, FramesNameBorn, RowsAreEnough};
+ghost use Rattle.propagation.specs.Laws.{CentralIsOne, ComputationsAreTrue, EmissionsGoForth, QuietIsSettled, WorkIsBounded, LegalIsKept, LegsGoOn, ReadersAreTold, FramesAreAccepted, ValuesAreTyped, FramesNameBorn, RowsAreEnough};
 ghost use Rattle.propagation.specs.Lines.{LinesAreEnough};
 ghost use Rattle.propagation.specs.Deciding.{FamiliesAreDecided, EntriesAreDecided};
 ghost use Rattle.propagation.specs.Notes.{NotesAreDetermined, NotesAreKept};
+
+/// A service has at most one central value at given clocks.
+pub fn central_is_one<V, D>()
+    ensures { CentralIsOne V D }
+{}
 
 /// Every computation of a legal family is true.
 pub fn computations_are_true<V, D>()

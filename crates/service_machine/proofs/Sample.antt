@@ -1,4 +1,5 @@
--- One whole leg by the steps of three services: two inputs 3 and 4, and their sum. The logs are those of the network's sample.
+-- One whole leg of two inputs, 3 and 4, and their sum: by the steps of each service, by one schedule, and by the drain. The logs are
+-- those that are printed, by computation.
 use Rattle.std.proofs.Common.{◌≡◌, ℕ, ◌+◌, List, [], ◌∷◌, refl, sum, zero, suc}
 use Rattle.propagation.specs.Logs.{Frame, Entry}
 use Rattle.propagation.specs.Logs.Frame.{Subscribe, Unsubscribe, Sources, Changed}
@@ -6,6 +7,7 @@ use Rattle.propagation.specs.Logs.Entry.{Did, Took, Computed, Sent}
 use Rattle.propagation.specs.History.{Book}
 use Rattle.service_machine.specs.Systems.Event.{Do, Take, Turn}
 use Rattle.service_machine.specs.Systems.{System, Event, run, first_system}
+use Rattle.service_machine.specs.Draining.{passed}
 use Rattle.service_machine.specs.States.{State}
 use Rattle.service_machine.specs.Turning.Choice.{Advance, Compute, Empty, Still}
 use Rattle.service_machine.specs.Steps.{turned, turn_log, took, took_log, done, done_log, chosen}
@@ -126,3 +128,21 @@ second_input = refl
 
 last_answer : chosen (ended.states 2) ≡ Still
 last_answer = refl
+
+-- ---- the drain: its logs are those that are printed
+
+abbrev drained : System ℕ Sum
+drained = passed names meaning (0 ∷ 1 ∷ 2 ∷ []) (0 ∷ 1 ∷ 2 ∷ []) (passed names meaning (0 ∷ 1 ∷ 2 ∷ []) (0 ∷ 1 ∷ 2 ∷ []) (first_system book))
+
+drained_first : drained.logs 0 ≡ Sent 2 (Changed 1 3 ((0, 1) ∷ [])) ∷ Sent 2 (Sources 1 (0 ∷ [])) ∷ Took 2 (Subscribe 1) ∷ Computed 3 ((0, 1) ∷ []) [] ∷ Did 1 ∷ []
+drained_first = refl
+
+drained_second : drained.logs 1 ≡ Sent 2 (Changed 1 4 ((0, 1) ∷ [])) ∷ Sent 2 (Sources 1 (1 ∷ [])) ∷ Took 2 (Subscribe 1) ∷ Computed 4 ((1, 1) ∷ []) [] ∷ Did 1 ∷ []
+drained_second = refl
+
+drained_sum : drained.logs 2
+    ≡ Computed 7 ((0, 1) ∷ (1, 1) ∷ (2, 1) ∷ []) (1 ∷ 1 ∷ [])
+    ∷ Took 1 (Changed 1 4 ((0, 1) ∷ [])) ∷ Took 1 (Sources 1 (1 ∷ []))
+    ∷ Took 0 (Changed 1 3 ((0, 1) ∷ [])) ∷ Took 0 (Sources 1 (0 ∷ []))
+    ∷ Sent 1 (Subscribe 1) ∷ Sent 0 (Subscribe 1) ∷ Did 1 ∷ []
+drained_sum = refl
