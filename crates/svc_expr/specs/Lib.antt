@@ -1,3 +1,4 @@
 pub mod Tree
 pub mod Meaning
+pub mod Operand
 pub mod formers

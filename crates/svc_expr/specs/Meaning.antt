@@ -172,18 +172,22 @@ meaning count_of_members values members = Int (pos (length members))
 meaning least_member values members = of_members least members
 meaning greatest_member values members = of_members greatest members
 
--- no part of the tree is a text, joins texts or makes one
-abbrev pub IsTextless : Tree → Type 0
-IsTextless (words text) = ⊥
-IsTextless (text_of a) = ⊥
-IsTextless (pair Join a b) = ⊥
-IsTextless (pair op a b) = IsTextless a × IsTextless b
-IsTextless (negated a) = IsTextless a
-IsTextless (denied a) = IsTextless a
-IsTextless (choice c a b) = IsTextless c × IsTextless a × IsTextless b
-IsTextless (len_of a) = IsTextless a
-IsTextless (number_of a) = IsTextless a
-IsTextless leaf = Unit {0}
+-- the operator that joins texts
+abbrev pub is_join : Op → Bool
+is_join Join = true
+is_join op = false
+
+-- the tree has a part that is a text, joins texts or makes one
+abbrev pub has_text : Tree → Bool
+has_text (words text) = true
+has_text (text_of a) = true
+has_text (pair op a b) = is_join op || has_text a || has_text b
+has_text (negated a) = has_text a
+has_text (denied a) = has_text a
+has_text (choice c a b) = has_text c || has_text a || has_text b
+has_text (len_of a) = has_text a
+has_text (number_of a) = has_text a
+has_text leaf = false
 
 -- the value is a whole number or a fault
 abbrev pub IsNoText : Value → Type 0

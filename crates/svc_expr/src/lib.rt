@@ -5,8 +5,14 @@
 mod boxed;
 mod copy;
 mod errors;
+mod evaluation;
 mod expr;
+mod members;
+mod numbers;
+mod operand;
+mod texts;
 
 pub use boxed::Boxed;
 pub use errors::{ExprError, TypeErrorAt};
+pub use evaluation::eval;
 pub use expr::{Expr, ExprKind, Op, Reading};
