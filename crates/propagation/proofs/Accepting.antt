@@ -1,4 +1,6 @@
--- Every frame that is owed may be taken after those before it.
+-- What is owed may be taken: by induction on the sender's log, for the whole of what it owes, since a receiver may be behind. Epochs are
+-- clocks of the reader, which rise; once a service has emitted, each reader has its keys announced, with a value after them; and the keys
+-- of a true emission are reached, so they are the sender's own or of lower rank.
 use Rattle.std.proofs.Common.{◌≡◌, ℕ, suc, ◌+◌, ◌<◌, ◌≤◌, true, List, [], ◌∷◌, ◌++◌, length, Option, Some, None, ◌⊎◌, inl, inr, refl, sym, ap, ◌∙◌, subst, arith, ◌==◌}
 use Rattle.std.proofs.lemmas.Bool.{cond-true, cond-false, cases_Bool}
 use Rattle.propagation.specs.Words.{Has, latest, as_list, IsOlderPart}

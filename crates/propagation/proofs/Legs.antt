@@ -1,4 +1,5 @@
--- Legs one after another, and the events of one.
+-- An event keeps a family legal, since only one log grows, and what it sent before stays sent. After a quiet leg the next one has an opening,
+-- since definitions, edges and central values at the clocks so far are those of the longer histories.
 use Rattle.std.proofs.Common.{◌≡◌, ℕ, zero, suc, ◌<◌, ◌≤◌, List, [], ◌∷◌, ◌++◌, length, refl, sym, ◌∙◌, subst, arith, ◌==◌, eqb-true, le_refl, slice_get, Option, Some, None, ap, ap₂, unwrap_or, if◌then◌else◌}
 use Rattle.propagation.specs.Words.{Has, IsOlderPart, is_among, latest}
 use Rattle.propagation.specs.History.{Book, definition, names_of, now, Reach, Central, edge}

@@ -37,3 +37,4 @@ pub mod SampleDiamond
 pub mod SampleFloor
 pub mod SampleEpochs
 pub mod SampleNewDefinition
+pub mod SampleNewKeys

@@ -1,4 +1,5 @@
--- A family is legal exactly where each of its entries keeps each rule and no asked frame is missing at the end of a log.
+-- A family is legal exactly where each of its entries keeps each rule and no asked frame is missing at the end of a log. What is owed is what
+-- was owed before the last other entry, and what that one asks; so `SentAll` goes from entry to entry.
 use Rattle.std.proofs.Common.{◌≡◌, suc, ℕ, ◌<◌, ◌≤◌, map, List, [], ◌∷◌, ◌++◌, length, Option, Some, None, inl, inr, refl, sym, ap, ap₂, ◌∙◌, subst, arith, ◌==◌, append_assoc, append-nil, eq-eqb, eqb-true, length-append}
 use Rattle.std.proofs.lemmas.Bool.{cond-true, cond-false, cases_Bool}
 use Rattle.std.proofs.lemmas.List.{append_cancel_right}

@@ -1,4 +1,5 @@
--- The notes of step lines are determined, and stay as the family goes on.
+-- The notes of step lines are a function of logs, earlier lines and step, so they are determined. They stay as the family goes on, since the
+-- part of a log that earlier notes made is not changed by what comes after it.
 use Rattle.std.proofs.Common.{◌≡◌, ℕ, suc, ◌<◌, ◌≤◌, true, false, ◌&&◌, leb, ◌==◌, List, [], ◌∷◌, ◌++◌, map, length, Some, ◌⊎◌, inl, inr, refl, sym, ap, ap₂, ◌∙◌, subst, arith, le_refl, if◌then◌else◌}
 use Rattle.std.proofs.lemmas.Bool.{cond-true, cond-false, cases_Bool, eq-eqb, eqb-true, ne_eqb, lt-leb, le-leb, and_parts, and_from, and_left, and_right}
 use Rattle.propagation.specs.History.{deps, now}

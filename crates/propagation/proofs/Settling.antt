@@ -1,4 +1,6 @@
--- A quiet family is settled, by the rank of the services.
+-- A quiet family is settled, by the rank of the services. All was taken, so readers are edges and the last that came over each is the
+-- dependency's last emission, at the present clocks. So these agree and none is below anything: the service's last work is from them, and
+-- its union is at the present clocks too.
 use Rattle.std.proofs.Common.{◌≡◌, ℕ, zero, suc, ◌<◌, ◌≤◌, List, [], ◌∷◌, ◌++◌, map, length, Option, Some, None, ◌⊎◌, inl, inr, refl, sym, ap, ap₂, ◌∙◌, subst, arith, append_assoc}
 use Rattle.propagation.specs.Words.{Has, IsOlderPart, latest, as_list}
 use Rattle.propagation.specs.History.{Book, deps, names_of, now, edge, Reach}

@@ -1,4 +1,5 @@
--- What is in flight is taken.
+-- What is in flight is taken. The theory says that it may be taken by what the log tells; a service that accords has the same in its slots and
+-- readers, so its tests pass. And each step keeps the accord, since a frame changes only the slot or the reader of its sender.
 use Rattle.std.proofs.Common.{◌≡◌, ℕ, suc, ◌<◌, ◌≤◌, Bool, true, List, [], ◌∷◌, length, Option, Some, None, ◌⊎◌, inl, inr, refl, sym, ap, ◌∙◌, subst, arith, ◌==◌, eqb-true}
 use Rattle.std.proofs.lemmas.Bool.{cond-true, cond-false, cases_Bool, eqb-false}
 use Rattle.propagation.specs.Words.{Has, Apart}

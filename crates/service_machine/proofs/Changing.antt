@@ -1,4 +1,5 @@
--- A change keeps what the state tells, and the log keeps the rules.
+-- A change keeps what the state tells, and the log keeps the rules. The list of edges is the book's, at each clock; a slot loses only what is
+-- under an epoch that is no longer live, and such an epoch never is again.
 use Rattle.std.proofs.Common.{◌≡◌, ℕ, suc, ◌+◌, ◌<◌, ◌≤◌, true, false, List, [], ◌∷◌, ◌++◌, length, slice_get, Option, Some, None, ◌⊎◌, inl, inr, refl, sym, ap, ap₂, ◌∙◌, subst, arith, ◌==◌, ne_eqb, eqb-true, true≢false, if◌then◌else◌, unwrap_or}
 use Rattle.std.proofs.lemmas.Bool.{cond-true, cond-false, cases_Bool, eqb-false}
 use Rattle.propagation.specs.Words.{Has, is_among, Apart, without}

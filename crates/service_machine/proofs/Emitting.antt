@@ -1,4 +1,5 @@
--- A turn that computes keeps what the state tells, and the log keeps the rules.
+-- A turn that computes keeps what the state tells, and the log keeps the rules. No head is below another or the floor, so the heads agree, and
+-- their union is on no key below what was emitted; and since the work is behind, it is news.
 use Rattle.std.proofs.Common.{◌≡◌, ℕ, ◌<◌, ◌≤◌, max, ltb, true, List, [], ◌∷◌, ◌++◌, Option, Some, None, ◌⊎◌, inl, inr, refl, sym, ap, ap₂, ◌∙◌, subst, arith, ◌==◌, eqb-true, if◌then◌else◌}
 use Rattle.std.proofs.lemmas.Bool.{cond-true, cond-false, cases_Bool, eqb-false, ltb-true, ltb-false}
 use Rattle.propagation.specs.Words.{Has, Apart}

@@ -1,4 +1,5 @@
--- A turn that takes the next value of a slot keeps what the state tells.
+-- A turn that takes the next value of a slot keeps what the state tells: it moves from what waits to what is gone, and its number is one more,
+-- so the sum of the numbers rises.
 use Rattle.std.proofs.Common.{◌≡◌, ℕ, zero, suc, ◌<◌, ◌≤◌, true, List, [], ◌∷◌, ◌++◌, length, Option, Some, None, inl, inr, refl, sym, ap, ◌∙◌, subst, arith, ◌==◌, eq-eqb, ne_eqb, eqb-true}
 use Rattle.std.proofs.lemmas.Bool.{cond-true, cond-false, cases_Bool, eqb-false}
 use Rattle.propagation.specs.Words.{Has, numbered}

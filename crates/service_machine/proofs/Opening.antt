@@ -1,4 +1,4 @@
--- A leg that begins at rest.
+-- A leg that begins at rest fits: nothing is taken, sent or done, so what the state keeps is what the opening says of it.
 use Rattle.std.proofs.Common.{◌≡◌, ℕ, zero, suc, ◌+◌, ◌<◌, ◌≤◌, List, [], ◌∷◌, ◌++◌, map, length, slice_get, Option, Some, None, inl, inr, refl, sym, ap, ap₂, ◌∙◌, subst, arith, ◌==◌, eq-eqb, ne_eqb, eqb-true, le_refl, if◌then◌else◌, unwrap_or}
 use Rattle.std.proofs.lemmas.Bool.{cond-true, cond-false, cases_Bool, eqb-false}
 use Rattle.propagation.specs.Words.{Has, latest, as_list, is_among}

@@ -1,4 +1,5 @@
--- A network of services.
+-- Where no turn has anything to do and nothing is in flight, the family is quiet. Then nothing waits in any slot: what a slot has is the
+-- sender's last emission, with the number of the last that came; and so its state is the row of the next leg's opening.
 use Rattle.std.proofs.Common.{◌≡◌, ℕ, ◌+◌, ◌<◌, ◌≤◌, true, false, List, [], ◌∷◌, ◌++◌, length, Option, Some, None, inl, inr, refl, sym, ap, ap₂, ◌∙◌, subst, arith, ◌==◌, eq-eqb, eqb-true, true≢false, le_refl, if◌then◌else◌}
 use Rattle.std.proofs.lemmas.Bool.{cond-true, cond-false, cases_Bool, eqb-false}
 use Rattle.propagation.specs.Words.{Has, latest, numbered, as_list}

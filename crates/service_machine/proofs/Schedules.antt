@@ -1,4 +1,5 @@
--- Every schedule of a network is legal.
+-- Every schedule of a system is legal: each event changes one service, which fits, accords and sent what it had sent, and the next frame in
+-- flight is accepted. And legs go on, from the first one.
 use Rattle.std.proofs.Common.{◌≡◌, ℕ, suc, ◌+◌, ◌<◌, ◌≤◌, Bool, true, List, [], ◌∷◌, ◌++◌, length, Option, Some, None, inl, inr, refl, sym, ap, ◌∙◌, subst, arith, ◌==◌, eqb-true, eq-eqb, ne_eqb, length-append}
 use Rattle.std.proofs.lemmas.Bool.{cond-true, cond-false, cases_Bool, eqb-false}
 use Rattle.std.specs.List.{AllZip}

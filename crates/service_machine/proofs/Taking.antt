@@ -1,4 +1,5 @@
--- A frame that is accepted, of any sender, keeps what the state tells, and the log keeps the rules.
+-- A frame that is accepted, of any sender, keeps what the state tells, and the log keeps the rules: what comes last in the queue comes last in
+-- what the log carries. A Subscribe is answered in full, under an epoch under which nothing was told yet.
 use Rattle.std.proofs.Common.{◌≡◌, ℕ, ◌<◌, ◌≤◌, ltb, true, false, List, [], ◌∷◌, ◌++◌, Option, Some, None, inl, inr, refl, sym, ap, ap₂, ◌∙◌, subst, arith, ◌==◌, eq-eqb, ne_eqb, eqb-true, if◌then◌else◌}
 use Rattle.std.proofs.lemmas.Bool.{cond-true, cond-false, cases_Bool, eqb-false, ltb-true, lt-ltb}
 use Rattle.propagation.specs.Words.{Has, is_among, latest}
