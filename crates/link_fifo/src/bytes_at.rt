@@ -1,0 +1,47 @@
+// Pieces of an item behind its length.
+ghost use Rattle.std.specs.Prelude.{◌≡◌, ◌+◌, ◌<◌, ◌≤◌, length, take, drop, slice_index};
+ghost use Rattle.wire_frame.specs.Stream.{framed};
+
+use crate::Piece;
+
+/// The byte at `at` of an item behind its length.
+pub(crate) fn byte_at(item: &[u8], at: usize) -> u8
+    requires fits { length item.now ≤ 585 }
+    requires within { at < length item.now + 2 }
+    ensures { result ≡ slice_index (framed item.now) at }
+{
+    let len = item.len();
+    if at == 0 {
+        (len / 256) as u8
+    } else if at == 1 {
+        (len % 256) as u8
+    } else {
+        item[at - 2]
+    }
+}
+
+// The piece that begins at `at` of an item behind its length, byte by byte.
+fn piece_from_length(item: &[u8], at: usize) -> Piece
+    requires fits { length item.now ≤ 585 }
+    requires within { at < length item.now + 2 }
+    ensures { result ≡ take 64 (drop at (framed item.now)) }
+{
+    let count = (item.len() + 2 - at).min(64);
+    let mut bytes = [0; 64];
+    for i in 0..count {
+        bytes[i] = byte_at(item, at + i);
+    }
+    Piece::cut(&bytes[..count])
+}
+
+/// The piece that begins at `at` of an item behind its length.
+pub(crate) fn piece_at(item: &[u8], at: usize) -> Piece
+    requires fits { length item.now ≤ 585 }
+    requires within { at < length item.now + 2 }
+    ensures { result ≡ take 64 (drop at (framed item.now)) }
+{
+    if at < 2 {
+        return piece_from_length(item, at);
+    }
+    Piece::cut(&item[at - 2..])
+}
