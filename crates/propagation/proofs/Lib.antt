@@ -15,9 +15,13 @@ pub mod LastTold
 pub mod Settling
 pub mod Epochs
 pub mod Rising
+pub mod LastWork
 pub mod Climbing
 pub mod WorkBound
 pub mod Legs
+pub mod Places
+pub mod ReadEpochs
+pub mod Announcing
 pub mod Accepting
 pub mod Naming
 pub mod Upward
@@ -28,6 +32,9 @@ pub mod Tests
 pub mod TestedRule
 pub mod TestedFamily
 pub mod Listed
+pub mod NextTaken
+pub mod Asking
+pub mod RuleParts
 pub mod Lines
 pub mod TestedLines
 pub mod Notes

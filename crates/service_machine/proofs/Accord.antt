@@ -1,103 +1,27 @@
 -- What is in flight is taken. The theory says that it may be taken by what the log tells; a service that accords has the same in its slots and
 -- readers, so its tests pass. And each step keeps the accord, since a frame changes only the slot or the reader of its sender.
-use Rattle.std.proofs.Common.{◌≡◌, ℕ, suc, ◌<◌, ◌≤◌, Bool, true, List, [], ◌∷◌, length, Option, Some, None, ◌⊎◌, inl, inr, refl, sym, ap, ◌∙◌, subst, arith, ◌==◌, eqb-true}
+use Rattle.std.proofs.Common.{◌≡◌, ℕ, suc, ◌≤◌, Bool, true, List, [], ◌∷◌, length, Option, Some, None, inl, inr, refl, sym, ap, ◌∙◌, subst, arith, ◌==◌, eqb-true}
 use Rattle.std.proofs.lemmas.Bool.{cond-true, cond-false, cases_Bool, eqb-false}
 use Rattle.propagation.specs.Words.{Has, Apart}
 use Rattle.propagation.specs.History.{edge, deps}
 use Rattle.propagation.specs.Stamps.{Stamps, clock_of, clocked, written}
-use Rattle.propagation.specs.Logs.{named_keys, Emission, Frame, Entry, Leg, taken, told, reply}
+use Rattle.propagation.specs.Logs.{Emission, Frame, Entry, Leg, taken, told, reply}
 use Rattle.propagation.specs.Logs.Frame.{Subscribe, Unsubscribe, Sources, Changed}
 use Rattle.propagation.specs.Logs.Entry.{Did, Took, Computed}
-use Rattle.propagation.specs.Rules.{announced, carried, Acceptable}
+use Rattle.propagation.specs.Rules.{announced, carried}
 use Rattle.propagation.proofs.Frames.{told-sources}
 use Rattle.service_machine.specs.States.{Slot, State, slot_at, with_slot, advanced, advance_with, announced_to, put, with_clock, keys_of, known}
 use Rattle.service_machine.specs.Turning.{Choice, inputs}
 use Rattle.service_machine.specs.Turning.Choice.{Advance, Compute, Empty, Lags, Still}
-use Rattle.service_machine.specs.Steps.{took, took_log, turned, turned_to, turn_log, turn_log_to, chosen, computed, computed_log, emission, done, done_log, done_with, done_log_with, redefined, rewired_log, NotBack, IsUnder, IsWhole, IsBelow, Accepts, picks}
-use Rattle.service_machine.specs.Fitting.{Kept, Fits}
+use Rattle.service_machine.specs.Steps.{took, took_log, turned, turned_to, turn_log, turn_log_to, chosen, computed, computed_log, emission, done, done_log, done_with, done_log_with, redefined, rewired_log, Accepts, picks}
+use Rattle.service_machine.specs.Fitting.{Fits}
 use Rattle.service_machine.specs.Accord.{Accord}
 use Rattle.service_machine.proofs.Slots.{slot_at-sender, with_slot-this, with_slot-other, advanced-sender}
 use Rattle.service_machine.proofs.Sending.{Sends, sends-to, sends-reports}
 use Rattle.service_machine.proofs.Sending.Sends.{none, one}
 use Rattle.service_machine.proofs.Readers.{with_clock-this, with_clock-other}
-use Rattle.service_machine.proofs.Taking.{taken-this, taken-other}
+use Rattle.service_machine.proofs.SlotTaking.{taken-this, taken-other}
 use Rattle.service_machine.proofs.Changing.{slot-is, sends-more}
-
--- ---- a frame that may be taken is accepted
-
-announced-some : {V : Type 0} (e : ℕ) (fs : List (Frame V)) → announced (Some e) fs ≡ None → ⊥
-announced-some e [] h = cc h
-announced-some e (Subscribe i ∷ fs) h = announced-some e fs h
-announced-some e (Unsubscribe i ∷ fs) h = announced-some e fs h
-announced-some e (Sources i ks ∷ fs) h = cc h
-announced-some e (Changed i v pairs ∷ fs) h = announced-some e fs h
-
-below-known : (a b : Option ℕ) (i j : ℕ) → a ≡ Some i → b ≡ Some j → i < j → IsBelow a b
-below-known None b i j x y lt = absurd (cc x)
-below-known (Some k) None i j x y lt = absurd (cc y)
-below-known (Some k) (Some l) i j x y lt = let m : k ≡ i = cc x in let o : l ≡ j = cc y in omega arith
-
-not-back : (o : Option (ℕ × List ℕ)) (e : ℕ) → ((a : ℕ × List ℕ) → o ≡ Some a → a.0 ≤ e) → NotBack o e
-not-back None e all = tt
-not-back (Some a) e all = all a refl
-
-is-whole : (o : Option Stamps) (ks : List ℕ) (pairs : List (ℕ × ℕ)) → ((S : Stamps) × (o ≡ Some S)) ⊎ (length pairs ≡ length ks) → IsWhole o ks pairs
-is-whole None ks pairs (inl w) = absurd (cc w.1)
-is-whole None ks pairs (inr e) = e
-is-whole (Some S) ks pairs h = tt
-
-module _ {V D : Type 0} (g : Leg V D) (low : Stamps) (s : State V D) (log : List (Entry V)) (k : Kept g low s log) (a : Accord g s.id s.slots s.past log) (rank : ℕ → ℕ) (ranks : ℕ → Option ℕ) (has_type : ℕ → V → Bool) (p : ℕ) where
-  abbrev pub Knows : Frame V → Type 0
-  Knows f = (q : ℕ) → (q ≡ s.id) ⊎ ((q ≡ p) ⊎ Has (named_keys f) q) → ranks q ≡ Some (rank q)
-
-  below : (f : Frame V) → Knows f → (i j : ℕ) → (i ≡ s.id) ⊎ ((i ≡ p) ⊎ Has (named_keys f) i) → (j ≡ s.id) ⊎ ((j ≡ p) ⊎ Has (named_keys f) j) → rank i < rank j → IsBelow (ranks i) (ranks j)
-  below f knows i j x y lt = below-known (ranks i) (ranks j) (rank i) (rank j) (knows i x) (knows j y) lt
-
-  pub acceptable-accepted : (f : Frame V) → Knows f → ((e : ℕ) (v : V) (pairs : List (ℕ × ℕ)) → f ≡ Changed e v pairs → has_type p v ≡ true) → Acceptable g rank s.id p (taken p log) f → Accepts ranks has_type p f s
-  acceptable-accepted (Subscribe e) knows typed (lower, absent, start, earlier) = (
-    below (Subscribe e) knows s.id p (inl refl) (inr (inl refl)) lower,
-    sym (k.read_by p) ∙ absent,
-    elim (a.reached p) [
-      | inl le ↦ (let l : clock_of s.past p ≤ g.start p = le in omega arith)
-      | inr h ↦ earlier (clock_of s.past p) h
-    ],
-  )
-  acceptable-accepted (Unsubscribe e) knows typed reads = sym (k.read_by p) ∙ reads
-  acceptable-accepted (Sources e ks) knows typed (lower, self, keys, epoch, back, rise) = (
-    below (Sources e ks) knows p s.id (inr (inl refl)) (inl refl) lower,
-    self,
-    λ q h. elim (keys q h) [
-      | inl same ↦ inl same
-      | inr lt ↦ inr (below (Sources e ks) knows q p (inr (inr h)) (inr (inl refl)) lt)
-    ],
-    rise,
-    not-back (slot_at s.slots p).announced e (go (announced (edge g.book s.id p (g.start s.id)) (taken p log)) refl),
-  )
-    where
-      go : (o : Option ℕ) → announced (edge g.book s.id p (g.start s.id)) (taken p log) ≡ o → (b : ℕ × List ℕ) → (slot_at s.slots p).announced ≡ Some b → b.0 ≤ e
-      go None is b found =
-          elim epoch [
-            | inl first ↦ absurd (announced-some e (taken p log) (ap (λ o. announced o (taken p log)) (sym first) ∙ is))
-            | inr later ↦ (let lt : g.start s.id < e = later in let le : b.0 ≤ g.start s.id = a.none p is b found in omega arith)
-          ]
-      go (Some j) is b found =
-          let w = a.some p j is in
-          let same : (j, w.keys) ≡ b = (let eq : Some (j, w.keys) ≡ Some b = sym w.are ∙ found in cc eq) in
-          let epoch_is : j ≡ b.0 = ap (λ (x : ℕ × List ℕ). x.0) same in
-          let le : j ≤ e = back j is in
-          omega arith
-  acceptable-accepted (Changed e v pairs) knows typed (lower, last, within, whole, rise) =
-      let w = a.some p e last in (
-        below (Changed e v pairs) knows p s.id (inr (inl refl)) (inl refl) lower,
-        typed e v pairs refl,
-        subst (λ o. IsUnder o e) (sym w.are) refl,
-        λ x h. subst (λ o. x.0 < length (keys_of o)) (sym w.are) (subst (λ c. x.0 < c) (sym w.as_many) (within x.0 x.1 h)),
-        is-whole (slot_at s.slots p).carried (keys_of (slot_at s.slots p).announced) pairs (elim whole [
-          | inl some ↦ inl (w.clocked some.0)
-          | inr all ↦ inr (all ∙ sym w.as_many ∙ ap (λ o. length (keys_of o)) (sym w.are))
-        ]),
-        rise,
-      )
 
 -- ---- each step keeps the accord
 

@@ -19,7 +19,7 @@ use Rattle.service_machine.specs.Fitting.{Live, Climb, SlotSound, SlotFits, Head
 use Rattle.service_machine.proofs.Slots.{slot_at-sender, slot_at-this, slot_at-next, targets-edges}
 use Rattle.service_machine.proofs.Sending.{Sends, sends-trans, sends-sends, follows-more, before-more, kept-more}
 use Rattle.service_machine.proofs.Moving.{climb-weaker}
-use Rattle.service_machine.proofs.Taking.{live-true, true-live}
+use Rattle.service_machine.proofs.SlotTaking.{live-true, true-live}
 
 -- ---- edges
 

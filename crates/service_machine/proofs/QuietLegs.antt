@@ -1,18 +1,18 @@
--- Where no turn has anything to do and nothing is in flight, the family is quiet. Then nothing waits in any slot: what a slot has is the
+-- In a quiet family nothing waits in any slot: what a slot has is the
 -- sender's last emission, with the number of the last that came; and so its state is the row of the next leg's opening.
-use Rattle.std.proofs.Common.{◌≡◌, ℕ, ◌+◌, ◌<◌, ◌≤◌, true, false, List, [], ◌∷◌, ◌++◌, length, Option, Some, None, inl, inr, refl, sym, ap, ap₂, ◌∙◌, subst, arith, ◌==◌, eq-eqb, eqb-true, true≢false, le_refl, if◌then◌else◌}
+use Rattle.std.proofs.Common.{◌≡◌, ℕ, ◌<◌, ◌≤◌, true, false, List, [], ◌∷◌, ◌++◌, length, Option, Some, None, inl, inr, refl, sym, ap, ap₂, ◌∙◌, subst, arith, ◌==◌, eq-eqb, eqb-true, true≢false, le_refl, if◌then◌else◌}
 use Rattle.std.proofs.lemmas.Bool.{cond-true, cond-false, cases_Bool, eqb-false}
-use Rattle.propagation.specs.Words.{Has, latest, numbered, as_list}
+use Rattle.propagation.specs.Words.{Has, latest, as_list}
 use Rattle.propagation.specs.History.{deps, edge, now}
 use Rattle.propagation.specs.Stamps.{Stamps, clock_of}
-use Rattle.propagation.specs.Logs.{Emission, Frame, Entry, Leg, Carry, own, taken, sent, told, reader, owed, carry, all_of, member, kept_under, is_epoch}
+use Rattle.propagation.specs.Logs.{Emission, Frame, Entry, Leg, own, taken, sent, told, reader, owed, carry, all_of, kept_under, is_epoch}
 use Rattle.propagation.specs.Logs.Frame.{Subscribe}
-use Rattle.propagation.specs.Rules.{Accepted, Legal, Quiet, Ready, Rests, present, next, announced, carried}
-use Rattle.propagation.proofs.Truth.{fed_all, all_good, picked_emission, own-start}
+use Rattle.propagation.specs.Rules.{Accepted, Legal, Quiet, Ready, present, next, announced, carried}
+use Rattle.propagation.proofs.Truth.{all_good, own-start}
 use Rattle.propagation.proofs.Epochs.{edge-le, subscribed}
 use Rattle.propagation.proofs.Edges.{dep-edge}
 use Rattle.propagation.proofs.Settling.{readers, settled, ready_at}
-use Rattle.propagation.proofs.Accepting.{announced-from, announced-reader, carried-owed}
+use Rattle.propagation.proofs.Announcing.{announced-from, announced-reader, carried-owed}
 use Rattle.service_machine.specs.States.{Head, Slot, State, slot_at, has_next, front_is, emission_of, known, reads_in, told_in}
 use Rattle.service_machine.specs.Turning.{Choice, inputs, waiting}
 use Rattle.service_machine.specs.Turning.Choice.{Advance, Compute}
@@ -20,52 +20,14 @@ use Rattle.service_machine.specs.Steps.{chosen, targets}
 use Rattle.service_machine.specs.Fitting.{Live, HeadFits, Heard, head_under, Kept, Fits}
 use Rattle.service_machine.specs.Openings.{first_head, first_slots, opened_with, AtRest, Grows, told_under, OpensAs}
 use Rattle.service_machine.specs.Accord.{Accord}
-use Rattle.service_machine.specs.Laws.{QuietByTurns, LegsOpen, RestByQuiet}
+use Rattle.service_machine.specs.Laws.{LegsOpen, RestByQuiet}
 use Rattle.service_machine.proofs.Moving.{epoch-same, head-this, head-other, present-under}
-use Rattle.service_machine.proofs.Resting.{rests, Aged, Even, even, even-last, empty-rests, lag-rests}
+use Rattle.service_machine.proofs.Resting.{Aged, Even, even, even-last, empty-rests, lag-rests}
 use Rattle.service_machine.proofs.Slots.{targets-edges, slots_of-has}
 use Rattle.service_machine.proofs.Table.{Chosen, choice-is, waiting-none}
 use Rattle.service_machine.proofs.Table.Chosen.{to_advance, to_compute, to_empty, to_lag, to_still}
 use Rattle.service_machine.proofs.Opening.{slot_at-first, grown, edge-same}
-
--- the last of what is carried has its last number
-last-member : {V : Type 0} (c : Carry V) (m : Emission V) → latest (all_of c) ≡ Some m → member c (length c.came) ≡ Some m
-last-member {V} c m is = go c.came is
-  where
-    first : (o : Option (Emission V)) → latest (as_list o) ≡ Some m → o ≡ Some m
-    first None e = absurd (cc e)
-    first (Some x) e = e
-
-    go : (came : List (Emission V)) → latest (came ++ as_list c.first) ≡ Some m → member (record { first = c.first; came = came }) (length came) ≡ Some m
-    go [] e = first c.first e
-    go (y ∷ ys) e = cond-true (length ys == length ys) (Some y) (numbered ys (length ys)) (eq-eqb (length ys) (length ys) refl) ∙ e
-
--- what is held of a service has clocks that are none of before the leg
-risen : {V D : Type 0} (g : Leg V D) (rank : ℕ → ℕ) (logs : ℕ → List (Entry V)) → Accepted g rank → Legal g logs →
-    (n p : ℕ) (m : Emission V) → latest (all_of (present g n p (logs n))) ≡ Some m → (q : ℕ) → 0 < clock_of m.stamps q → g.start q ≤ clock_of m.stamps q
-risen g rank logs acc legal n p m is q pos =
-    let mem = last-member (present g n p (logs n)) m is in
-    (all_good g rank logs acc legal p m (picked_emission g rank logs acc n (logs n) (fed_all g rank logs acc legal n) p (length (present g n p (logs n)).came) m mem)).risen q pos
-
-pub quiet_by_turns : (V D : Type 0) → QuietByTurns V D
-quiet_by_turns V D g rank logs low states acc legal id fits old arrived left no_move no_work = record {
-  all_taken = arrived;
-  all_done = λ n. subst (λ j. own g j (logs n) ≡ now g.book j) (id n) (done n);
-  rests = λ n pos. subst (λ j. Rests g j (logs n)) (id n)
-      (rests g (low n) (states n) (logs n) (fits n).kept
-      (λ p m dep last q key.
-      let a : clock_of (low n) q ≤ g.start q = old n q in
-      let b : g.start q ≤ clock_of m.stamps q = risen g rank logs acc legal n p m (subst (λ j. latest (all_of (present g j p (logs n))) ≡ Some m) (id n) last) q key in
-      omega arith)
-      (no_move n) (no_work n) (sym (fits n).kept.own_is ∙ done n));
-}
-  where
-    done : (n : ℕ) → own g (states n).id (logs n) ≡ now g.book (states n).id
-    done n =
-        let a : own g (states n).id (logs n) ≡ (states n).own = (fits n).kept.own_is in
-        let b : now g.book (states n).id ≡ (states n).own + length (states n).left = (fits n).kept.in_time in
-        let c : length (states n).left ≡ 0 = ap (λ (ds : List D). length ds) (left n) in
-        omega arith
+use Rattle.service_machine.proofs.QuietTurns.{risen}
 
 -- ---- the next leg
 

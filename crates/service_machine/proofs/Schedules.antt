@@ -23,7 +23,7 @@ use Rattle.service_machine.specs.Systems.{System, Event, in_flight, changed_to, 
 use Rattle.service_machine.specs.Systems.Event.{Do, Take, Turn}
 use Rattle.service_machine.proofs.Sending.{Sends, sends-to, sends-reports}
 use Rattle.service_machine.proofs.Sending.Sends.{none, one}
-use Rattle.service_machine.proofs.Taking.{taken-this, taken-other}
+use Rattle.service_machine.proofs.SlotTaking.{taken-this, taken-other}
 use Rattle.service_machine.proofs.Turned.{turned-fits}
 use Rattle.service_machine.proofs.Took.{took-fits, took-id}
 use Rattle.service_machine.proofs.Changing.{done-fits, sends-rewired}
@@ -31,7 +31,8 @@ use Rattle.service_machine.proofs.Accord.{taken-more, accord-turned, accord-took
 use Rattle.service_machine.proofs.Promises.{frames_are_taken}
 use Rattle.service_machine.specs.Openings.{new_state, opened_with, first_slots, AtRest, Grows, OpensAs}
 use Rattle.service_machine.proofs.Opening.{rested, new-rested, opening-fits, grown}
-use Rattle.service_machine.proofs.QuietLegs.{quiet_by_turns, rest_by_quiet, legs_open}
+use Rattle.service_machine.proofs.QuietLegs.{rest_by_quiet, legs_open}
+use Rattle.service_machine.proofs.QuietTurns.{quiet_by_turns}
 
 -- ---- lists
 
