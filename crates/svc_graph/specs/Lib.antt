@@ -1,2 +1,3 @@
+pub mod Central
 pub mod History
 pub mod Versions
