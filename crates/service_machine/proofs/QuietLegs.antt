@@ -29,6 +29,10 @@ use Rattle.service_machine.proofs.Table.Chosen.{to_advance, to_compute, to_empty
 use Rattle.service_machine.proofs.Opening.{slot_at-first, grown, edge-same}
 use Rattle.service_machine.proofs.QuietTurns.{risen}
 
+-- where stamps were carried, they are what was heard
+heard-carried : (S : Stamps) (ks : List ℕ) (o : Option Stamps) (R : Stamps) → o ≡ Some R → Heard S ks o → S ≡ R
+heard-carried S ks o R is h = subst (λ o. Heard S ks o) is h
+
 -- ---- the next leg
 
 module _ {V D : Type 0} (g : Leg V D) (rank : ℕ → ℕ) (logs : ℕ → List (Entry V)) (more : ℕ → List D) (acc : Accepted g rank) (legal : Legal g logs) (quiet : Quiet g logs)
@@ -77,7 +81,7 @@ module _ {V D : Type 0} (g : Leg V D) (rank : ℕ → ℕ) (logs : ℕ → List 
         c.0,
         w.are,
         c.1,
-        subst (λ o. Heard (told (g.hears s.id p e) e (taken p (logs s.id))) w.keys o) c.1 ((k.slots p).heard (e, w.keys) w.are (inl is)),
+        heard-carried (told (g.hears s.id p e) e (taken p (logs s.id))) w.keys (slot_at s.slots p).carried c.0 c.1 ((k.slots p).heard (e, w.keys) w.are (inl is)),
         w.as_many,
       )
 
