@@ -71,4 +71,11 @@ impl<'a> LentName<'a> {
     {
         self.text
     }
+
+    /// The same name, lent once more.
+    pub fn lend(&self) -> LentName<'a>
+        ensures { result ≡ self.now }
+    {
+        LentName { text: self.text }
+    }
 }

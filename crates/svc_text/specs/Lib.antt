@@ -1,0 +1,5 @@
+pub mod Document
+pub mod Grammar
+pub mod Legs
+pub mod Refusals
+pub mod Rows

@@ -1,0 +1,13 @@
+//! Documents: their lines, the legs that they say, and how they are read.
+//! A document is accepted where no line is refused, each judged against the lines before it.
+#![tactic(auto)]
+
+mod plan;
+mod refusal;
+mod statement;
+
+pub use plan::{
+    Leg, Mode, Plan, PlanChange, PlanChanges, PlanLegs, ServiceLine, ServiceLines, StepEvent,
+    StepLine, StepLines,
+};
+pub use refusal::{Code, DocError, Refusal};
