@@ -8,11 +8,15 @@ mod errors;
 mod evaluation;
 mod expr;
 mod members;
+mod names;
 mod numbers;
 mod operand;
 mod texts;
+mod types;
 
 pub use boxed::Boxed;
 pub use errors::{ExprError, TypeErrorAt};
 pub use evaluation::eval;
 pub use expr::{Expr, ExprKind, Op, Reading};
+pub use names::{names_of, needs_int_members};
+pub use types::type_of;
