@@ -1,2 +1,5 @@
-pub mod Lists
+pub mod Books
 pub mod Keeping
+pub mod Lists
+pub mod Naming
+pub mod Rows

@@ -1,5 +1,5 @@
 -- The rows of a book, how a change grows one of them, and the book as the theory of propagation sees it.
-use Rattle.std.specs.Prelude.{◌≡◌, ℕ, zero, suc, Bool, true, false, List, [], ◌∷◌, ◌++◌, ◌-◌, ◌==◌, not, map, filter, take, drop, length, position, slice_get, slice_index_or, Option, Some, None}
+use Rattle.std.specs.Prelude.{ℕ, zero, suc, Bool, true, false, List, [], ◌∷◌, ◌++◌, ◌-◌, ◌==◌, not, map, filter, take, drop, length, position, slice_get, slice_index_or, Option, Some, None}
 use Rattle.std.specs.Str.{bytes_eq}
 use Rattle.propagation.specs.History.{Book}
 use Rattle.svc_expr.specs.Meaning.{meaning}
@@ -84,9 +84,13 @@ kind_of row = record { rank = row.rank; ty = row.ty }
 abbrev pub roster_of : List Row → List Kind
 roster_of rows = map kind_of rows
 
+-- the names of the services
+abbrev pub names_in : List Row → List (List ℕ)
+names_in rows = map (λ row. row.name) rows
+
 -- the number of the service with this name, if it is declared
 abbrev pub place_of : List Row → List ℕ → Option ℕ
-place_of rows name = position (λ row. bytes_eq name row.name) rows
+place_of rows name = position (bytes_eq name) (names_in rows)
 
 -- ---- the book as the theory sees it
 

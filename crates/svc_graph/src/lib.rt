@@ -3,11 +3,13 @@
 //! in its row; every change that breaks a rule of the book is refused.
 #![tactic(auto)]
 
+mod book;
 mod definition;
 mod errors;
 mod history;
 mod kind;
 
+pub use book::{Book, MOST_SERVICES};
 pub use definition::{Change, Definition, Formula};
 pub use errors::{ChangeError, DeclareError};
 pub use history::History;

@@ -1,0 +1,31 @@
+-- What a book keeps when it grows.
+use Rattle.std.proofs.Common.{◌≡◌, ℕ, ◌+◌, ◌<◌, ◌≤◌, List, [], ◌∷◌, ◌++◌, length, length-append, is_some, false, ap, sym, ◌∙◌, subst, inl, inr, ◌⊎◌, arith}
+use Rattle.std.proofs.lemmas.List.{map-append}
+use Rattle.std.proofs.Math.ListN.{get_or-append}
+use Rattle.std.proofs.Math.Seq.{get_or-append_seam}
+use Rattle.svc_graph.proofs.Naming.{Has-not_found, Differ-push}
+use Rattle.svc_graph.specs.Book.{IsBook, IsRow, Differ}
+use Rattle.svc_graph.specs.History.{Row, declared_row, names_in, place_of, row_at}
+use Rattle.svc_value.specs.declared.value.ValueType.{ValueType}
+use Rattle.svc_value.specs.declared.value.ValueType.TheVariants.{Int}
+
+-- a number below one more than a bound is below it or is it
+below_or_last : (n bound : ℕ) → n < bound + 1 → (n < bound) ⊎ (n ≡ bound)
+below_or_last n bound h = grind arith
+
+-- a book with one service more, whose name is new
+pub IsBook-push : (rows : List Row) (name : List ℕ) (rank : ℕ) (ty : ValueType) → IsBook rows → is_some (place_of rows name) ≡ false → length rows < 64 → rank ≤ 1000 →
+    IsBook (rows ++ declared_row name rank ty ∷ [])
+IsBook-push rows name rank ty h new room low =
+    record {
+      few = rw length-append (omega arith);
+      names = subst Differ (sym (map-append (λ row. row.name) rows (declared_row name rank ty ∷ []))) (Differ-push (names_in rows) name h.names (Has-not_found (names_in rows) name new));
+      each = λ n within. each n within;
+    }
+  where
+    each : (n : ℕ) → n < length (rows ++ declared_row name rank ty ∷ []) → IsRow (row_at (rows ++ declared_row name rank ty ∷ []) n)
+    each n within =
+        elim (below_or_last n (length rows) (rw length-append at within)) [
+          | inl below ↦ subst IsRow (sym (get_or-append rows (declared_row name rank ty ∷ []) (declared_row [] 0 Int) n below)) (h.each n below)
+          | inr last ↦ subst IsRow (sym (ap (row_at (rows ++ declared_row name rank ty ∷ [])) last ∙ get_or-append_seam rows (declared_row name rank ty) [] (declared_row [] 0 Int))) (record { rank = low; clock = omega arith })
+        ]

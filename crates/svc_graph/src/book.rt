@@ -1,0 +1,169 @@
+// The names, ranks, types and histories of all services.
+ghost use Rattle.std.specs.Prelude.{◌≡◌, ◌≤◌, ◌<◌, ◌++◌, ◌∷◌, ◌↔◌, [], length, position, vec_len, vec_capacity, IsSome, IsNone, IsErrOf, IfOk, OnOk, OnErr};
+ghost use Rattle.std.specs.Str.{bytes_eq};
+ghost use Rattle.svc_graph.specs.Columns.{bytes_of};
+
+use crate::{DeclareError, History, Kind, Roster};
+use indexmap::IndexSet;
+use std::alloc::Global;
+use std::marker::Model;
+use svc_value::{Clock, OutOfMemory, Rank, ServiceId, ValueType};
+
+/// The most services of a book.
+pub const MOST_SERVICES: usize = 64;
+
+/// The services of a network: the name, the rank, the type and the accepted definitions of each. Contracts see one row for
+/// each service, in the order of declaration.
+#[derive(Debug, Drop)]
+pub struct Book {
+    alloc: Global,
+    names: IndexSet<String>,
+    kinds: Vec<Kind>,
+    histories: Vec<History>,
+}
+
+impl Model for Book {
+    ghost use Rattle.std.specs.Prelude.{List};
+    ghost use Rattle.svc_graph.specs.History.{Row};
+
+    ghost Value = { List Row };
+
+    ghost use Rattle.svc_expr.specs.contracts.expr.Expr as e;
+    ghost use Rattle.std.specs.Coded.{codes};
+
+    ghost coded = { Prim.hlevel (codes, e.the_row.coded) };
+
+    ghost use Rattle.svc_graph.specs.Columns.{bytes_of, rows_of, AreColumns};
+
+    ghost view = { λ b. rows_of (bytes_of b.names.keys) b.kinds.items b.histories.items };
+
+    ghost invariant = { λ b. AreColumns (bytes_of b.names.keys) b.kinds.items b.histories.items };
+}
+
+// The place of a service among all.
+fn place(id: ServiceId) -> usize
+    ensures { result ≡ id }
+{
+    usize::from(id.0)
+}
+
+// Inserts a name that is not there yet.
+fn insert(alloc: Global, names: &mut IndexSet<String>, name: &str) -> Result<(), OutOfMemory>
+    requires { IsNone (position (bytes_eq name.now) (bytes_of names.old.keys)) }
+    ensures ok { OnOk result (bytes_of names.new.keys ≡ bytes_of names.old.keys ++ name.now ∷ []) }
+    ensures err { OnErr result (names.new.keys ≡ names.old.keys) }
+{
+    names.insert(String::from_str(alloc, name)?)?;
+    Ok(())
+}
+
+// Appends an item for which there is room.
+fn push_reserved<T: Drop>(items: &mut Vec<T>, item: T)
+    requires { vec_len items.old < vec_capacity items.old }
+    ensures { items.new.items ≡ items.old.items ++ item ∷ [] }
+{
+    if items.push(item).is_err() {
+        unreachable!()
+    }
+}
+
+impl Book {
+    ghost use Rattle.svc_graph.specs.Book.{IsBook};
+    ghost use Rattle.svc_graph.specs.History.{declared_row, place_of, roster_of, row_at};
+
+    /// The book without services, which takes its memory from `alloc`.
+    pub fn new(alloc: Global) -> Book
+        ensures { result ≡ [] }
+    {
+        Book {
+            alloc,
+            names: IndexSet::new(alloc),
+            kinds: Vec::new(alloc),
+            histories: Vec::new(alloc),
+        }
+    }
+
+    /// Declares a service of this name, rank (0 for an input, else 1 to 1000) and type, without a definition, and answers its
+    /// number. `Taken` exactly where the name is declared, else `Full` exactly where 64 services are, and `OutOfMemory` for want
+    /// of memory; an error leaves the book as it was.
+    pub fn declare(
+        &mut self,
+        name: &str,
+        rank: Rank,
+        ty: ValueType,
+    ) -> Result<ServiceId, DeclareError>
+        requires { rank ≤ 1000 }
+        ensures number { IfOk result (λ id. id ≡ length self.old) }
+        ensures ok { OnOk result (self.new ≡ self.old ++ declared_row name.now rank ty ∷ []) }
+
+        // The name is tested first.
+        ensures taken { IsErrOf result DeclareError.Taken ↔ IsSome (place_of self.old name.now) }
+        ensures full { IsErrOf result DeclareError.Full ↔ (IsNone (place_of self.old name.now) × (64 ≤ length self.old)) }
+        ensures err { OnErr result (self.new ≡ self.old) }
+    {
+        if self.find(name).is_some() {
+            return Err(DeclareError::Taken);
+        }
+        if self.len() >= MOST_SERVICES {
+            return Err(DeclareError::Full);
+        }
+        Ok(self.append(name, Kind { rank, ty })?)
+    }
+
+    // Appends a row without a definition.
+    fn append(&mut self, name: &str, kind: Kind) -> Result<ServiceId, OutOfMemory>
+        requires new { IsNone (place_of self.old name.now) }
+        requires room { length self.old < 64 }
+        requires rank { kind.rank ≤ 1000 }
+        ensures number { IfOk result (λ id. id ≡ length self.old) }
+        ensures ok { OnOk result (self.new ≡ self.old ++ declared_row name.now kind.rank kind.ty ∷ []) }
+        ensures err { OnErr result (self.new ≡ self.old) }
+    {
+        let number = self.kinds.len();
+        self.kinds.reserve(1)?;
+        self.histories.reserve(1)?;
+        insert(self.alloc, &mut self.names, name)?;
+        push_reserved(&mut self.kinds, kind);
+        push_reserved(&mut self.histories, History::new(self.alloc));
+        Ok(ServiceId(number as u16))
+    }
+
+    /// The service with this name; `None` exactly where none is declared.
+    pub fn find(&self, name: &str) -> Option<ServiceId>
+        ensures { result ≡ place_of self.now name.now }
+    {
+        let place = self.names.get_index_of(name)?;
+        Some(ServiceId(place as u16))
+    }
+
+    /// How many services are declared.
+    pub fn len(&self) -> usize
+        ensures len { result ≡ length self.now }
+        ensures book { IsBook self.now }
+    {
+        self.kinds.len()
+    }
+
+    /// The name of the service `id`.
+    pub fn name(&self, id: ServiceId) -> &str
+        requires { id < length self.now }
+        ensures { result.now ≡ (row_at self.now id).name }
+    {
+        self.names.as_slice()[place(id)].as_str()
+    }
+
+    /// How many changes of the service `id` were accepted; 0 before its birth.
+    pub fn clock(&self, id: ServiceId) -> Clock
+        requires { id < length self.now }
+        ensures { result ≡ length (row_at self.now id).history }
+    {
+        Clock(self.histories[place(id)].len() as u32)
+    }
+
+    /// The ranks and the types of all services, in the order of declaration.
+    pub fn roster(&self) -> Result<Roster, OutOfMemory>
+        ensures { IfOk result (λ roster. roster ≡ roster_of self.now) }
+    {
+        Roster::from_slice(self.alloc, self.kinds.as_slice())
+    }
+}
