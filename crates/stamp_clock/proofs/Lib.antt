@@ -1,0 +1,5 @@
+pub mod RiseLemmas
+pub mod PlacesLemmas
+pub mod BesideLemmas
+pub mod JoinLemmas
+pub mod FloorLemmas

@@ -1,0 +1,5 @@
+pub mod Places
+pub mod WordOf
+pub mod Beside
+pub mod Table
+pub mod TableOf
