@@ -56,7 +56,7 @@ module _ {V D : Type 0} (g : Leg V D) (n : ℕ) where
   advance-clocks s (x ∷ rest) = refl
 
   -- what a slot and the others share stays as that slot is replaced
-  slot-same : {A : Type 0} (f : Slot V → A) (slots : List (Slot V)) (p : ℕ) (new : Slot V) → new.sender ≡ p → f new ≡ f (slot_at slots p) → (q : ℕ) → f (slot_at (with_slot new slots) q) ≡ f (slot_at slots q)
+  pub slot-same : {A : Type 0} (f : Slot V → A) (slots : List (Slot V)) (p : ℕ) (new : Slot V) → new.sender ≡ p → f new ≡ f (slot_at slots p) → (q : ℕ) → f (slot_at (with_slot new slots) q) ≡ f (slot_at slots q)
   slot-same f slots p new is same q =
       elim (cases_Bool (p == q)) [
         | inl t ↦ (let e : p ≡ q = eqb-true p q t in ap f (with_slot-this new slots q (is ∙ e)) ∙ same ∙ ap (λ j. f (slot_at slots j)) e)

@@ -26,6 +26,11 @@ pub mod TurnsEnd
 pub mod Passes
 pub mod Waiting
 pub mod Draining
+pub mod FirstAnswers
+pub mod Answering
+pub mod Agreeing
+pub mod NotedLine
+pub mod Noting
 pub mod Counting
 pub mod Refusing
 pub mod Nodes

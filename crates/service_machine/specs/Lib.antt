@@ -8,5 +8,6 @@ pub mod Accord
 pub mod Laws
 pub mod Systems
 pub mod Draining
+pub mod Noting
 pub mod Refusing
 pub mod Nodes

@@ -4,6 +4,7 @@
 #![tactic(auto)]
 
 ghost use Rattle.service_machine.specs.Laws.{OpeningsFit, StepsFit, TurnsRest, MovesAreKept, StampsGoForth, NumbersAreSmall, FramesAreTaken, AccordIsKept, QuietByTurns, RestByQuiet, LegsOpen};
+ghost use Rattle.service_machine.specs.Noting.{NotesAreFollowed, SchedulesJoin};
 ghost use Rattle.service_machine.specs.Refusing.{RefusalsAreExact};
 ghost use Rattle.service_machine.specs.Nodes.{NodesFit, NodesGather};
 ghost use Rattle.service_machine.specs.Draining.{PassesEndQuiet, PassesJoin, TurnsEnd, DrainEndsQuiet};
@@ -117,4 +118,14 @@ pub fn passes_join<V, D>()
 /// The drain ends quiet.
 pub fn drain_ends_quiet<V, D>()
     ensures { DrainEndsQuiet V D }
+{}
+
+/// The family follows the step lines of a schedule with the notes that the system gives.
+pub fn notes_are_followed<V, D>()
+    ensures { NotesAreFollowed V D }
+{}
+
+/// A schedule and then more is one schedule, with the lines of both.
+pub fn schedules_join<V, D>()
+    ensures { SchedulesJoin V D }
 {}
