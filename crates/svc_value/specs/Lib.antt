@@ -1,6 +1,9 @@
 pub mod Causes
 pub mod Layout
 pub mod Memory
+pub mod Prefix
 pub mod Printed
 pub mod Streams
+pub mod Taken
+pub mod Utf8Front
 pub mod Value

@@ -3,6 +3,7 @@
 #![tactic(auto)]
 
 mod errors;
+mod layout;
 mod list;
 mod memory_sink;
 mod memory_source;
@@ -11,10 +12,12 @@ mod printing;
 mod std_streams;
 mod steps;
 mod streams;
+mod taken;
 mod text;
 mod value;
 
 pub use errors::{Failed, OutOfMemory};
+pub use layout::{one_value, put_value};
 pub use list::{Bytes, Clocks, Ids, ListOf, Name, Names};
 pub use memory_sink::MemorySink;
 pub use memory_source::MemorySource;
@@ -23,5 +26,6 @@ pub use printing::print_value;
 pub use std_streams::{StdSink, StdSource};
 pub use steps::Steps;
 pub use streams::{Sink, Source};
+pub use taken::{ValueError, ValueReason, take_value};
 pub use text::{LONGEST_TEXT, TextError, ValueText};
 pub use value::{Fault, Value, ValueType};

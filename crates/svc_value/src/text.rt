@@ -3,7 +3,7 @@ ghost use Rattle.std.specs.Prelude.{◌≡◌, ◌<◌, ◌≤◌, length, IfOk,
 ghost use Rattle.std.specs.Str.{IsUtf8};
 
 use crate::OutOfMemory;
-use std::alloc::{AllocError, Global};
+use std::alloc::Global;
 use std::marker::Model;
 
 /// The most bytes that a text has.
@@ -35,13 +35,13 @@ pub enum TextError {
     OutOfMemory,
 }
 
-impl From<AllocError> for TextError {
+impl From<OutOfMemory> for TextError {
     ghost use Rattle.svc_value.specs.declared.text.TextError.TheVariants.{OutOfMemory};
     ghost use Rattle.std.specs.Prelude.{◌≡◌};
 
     ghost from_gives = { λ _ e. e ≡ OutOfMemory };
 
-    fn from(_: AllocError) -> Self {
+    fn from(_: OutOfMemory) -> Self {
         TextError::OutOfMemory
     }
 }
@@ -57,6 +57,14 @@ impl ValueText {
         if text.len() > LONGEST_TEXT {
             return Err(TextError::TooLong { len: text.len() });
         }
+        Ok(ValueText::kept(alloc, text)?)
+    }
+
+    // The text with the characters of a text that is short enough.
+    pub(crate) fn kept(alloc: Global, text: &str) -> Result<ValueText, OutOfMemory>
+        requires { length text.now ≤ 256 }
+        ensures { IfOk result (λ made. made ≡ text.now) }
+    {
         Ok(ValueText {
             text: String::from_str(alloc, text)?,
         })
