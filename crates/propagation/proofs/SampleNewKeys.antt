@@ -16,7 +16,7 @@ use Rattle.propagation.proofs.TestedFamily.{Decides-is_legal, Decides-is_quiet}
 use Rattle.propagation.proofs.SampleBook.{Linear, of_list, family, first_leg, first_opening, past_end, family_silent, accepted_by}
 
 -- the definitions of the first leg
-abbrev histories : List (List Linear)
+abbrev pub histories : List (List Linear)
 histories =
     (record { constant = 2; terms = [] } ∷ [])
     ∷ (record { constant = 5; terms = [] } ∷ [])
@@ -42,9 +42,9 @@ abbrev first_block : List (List (Entry ℕ))
 first_block =
     (Did 1 ∷ Computed 2 ((0, 1) ∷ []) [] ∷ Took 2 (Subscribe 1) ∷ Sent 2 (Sources 1 (0 ∷ [])) ∷ Sent 2 (Changed 1 2 ((0, 1) ∷ [])) ∷ [])
     ∷ (Did 1 ∷ Computed 5 ((1, 1) ∷ []) [] ∷ [])
-    ∷ (Did 1 ∷ Sent 0 (Subscribe 1) ∷ Took 3 (Subscribe 1)
+    ∷ (Did 1 ∷ Sent 0 (Subscribe 1)
     ∷ Took 0 (Sources 1 (0 ∷ [])) ∷ Took 0 (Changed 1 2 ((0, 1) ∷ []))
-    ∷ Computed 2 ((0, 1) ∷ (2, 1) ∷ []) (1 ∷ [])
+    ∷ Took 3 (Subscribe 1) ∷ Computed 2 ((0, 1) ∷ (2, 1) ∷ []) (1 ∷ [])
     ∷ Sent 3 (Sources 1 (0 ∷ 2 ∷ [])) ∷ Sent 3 (Changed 1 2 ((0, 1) ∷ (1, 1) ∷ [])) ∷ [])
     ∷ (Did 1 ∷ Sent 2 (Subscribe 1)
     ∷ Took 2 (Sources 1 (0 ∷ 2 ∷ [])) ∷ Took 2 (Changed 1 2 ((0, 1) ∷ (1, 1) ∷ []))
@@ -52,7 +52,7 @@ first_block =
     ∷ []
 
 -- and newest first
-abbrev logs : ℕ → List (Entry ℕ)
+abbrev pub logs : ℕ → List (Entry ℕ)
 logs = family first_block
 
 all_born : (n : ℕ) → 4 ≤ n → now leg.book n ≡ 0
@@ -70,7 +70,7 @@ quiet = (Decides-is_quiet nat_eq Decides-eqb 4 leg ranks accepted all_born logs 
 -- ---- the second block
 
 -- the change of the second leg
-abbrev changes : List (List Linear)
+abbrev pub changes : List (List Linear)
 changes = [] ∷ [] ∷ (record { constant = 0; terms = (1, 1) ∷ [] } ∷ []) ∷ [] ∷ []
 
 -- the second leg, after the first
@@ -100,7 +100,7 @@ second_block =
     ∷ []
 
 -- and newest first
-abbrev second_logs : ℕ → List (Entry ℕ)
+abbrev pub second_logs : ℕ → List (Entry ℕ)
 second_logs = family second_block
 
 pub second_legal : Legal second second_logs

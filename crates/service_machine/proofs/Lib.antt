@@ -20,6 +20,7 @@ pub mod Promises
 pub mod QuietTurns
 pub mod QuietLegs
 pub mod Sample
+pub mod SampleRows
 pub mod Schedules
 pub mod Acting
 pub mod TurnsEnd
