@@ -9,6 +9,7 @@ use Rattle.propagation.specs.Logs.{Frame, Entry, Leg, taken, sent, reply}
 use Rattle.propagation.specs.Logs.Entry.{Took}
 use Rattle.propagation.specs.Rules.{Accepted}
 use Rattle.propagation.proofs.ByTest.{by_test}
+use Rattle.propagation.proofs.Lists.{numbered-past, numbered-there}
 use Rattle.propagation.proofs.Naming.{frames_name_born}
 use Rattle.propagation.proofs.Truth.{fed_all}
 use Rattle.propagation.proofs.Upward.{owed-self}
@@ -24,7 +25,7 @@ use Rattle.service_machine.proofs.Schedules.{event-system, schedules_are_legal}
 use Rattle.service_machine.proofs.Acting.{state-this, log-this, log-other, event-goes, run-other, run-left, run-append, all-append}
 use Rattle.service_machine.proofs.TurnsEnd.{turns_end}
 use Rattle.service_machine.proofs.Passes.{passes_end_quiet}
-use Rattle.service_machine.proofs.Waiting.{numbered-past, numbered-there, all-times, taken-sends, taken-goes}
+use Rattle.service_machine.proofs.Waiting.{all-times, taken-sends, taken-goes}
 
 module _ {V D : Type 0} (g : Leg V D) (rank : ℕ → ℕ) (low : ℕ → Stamps) (acc : Accepted g rank) (apart : NoneTwice g) (n : ℕ) where
   abbrev after : List Event → System V D → System V D

@@ -1,15 +1,16 @@
 -- Every schedule of a system is legal: each event changes one service, which fits, accords and sent what it had sent, and the next frame in
 -- flight is accepted. And legs go on, from the first one.
-use Rattle.std.proofs.Common.{◌≡◌, ℕ, suc, ◌+◌, ◌<◌, ◌≤◌, Bool, true, List, [], ◌∷◌, ◌++◌, length, Option, Some, None, inl, inr, refl, sym, ap, ◌∙◌, subst, arith, ◌==◌, eqb-true, eq-eqb, ne_eqb, length-append}
+use Rattle.std.proofs.Common.{◌≡◌, ℕ, suc, ◌+◌, ◌<◌, ◌≤◌, Bool, true, List, [], ◌∷◌, length, Option, Some, None, inl, inr, refl, sym, ap, ◌∙◌, subst, arith, ◌==◌, eqb-true}
 use Rattle.std.proofs.lemmas.Bool.{cond-true, cond-false, cases_Bool, eqb-false}
 use Rattle.std.specs.List.{AllZip}
-use Rattle.propagation.specs.Words.{Has, IsOlderPart, numbered}
+use Rattle.propagation.specs.Words.{Has, IsOlderPart}
 use Rattle.propagation.specs.History.{definition, now, Book}
 use Rattle.propagation.specs.Stamps.{Stamps, clock_of}
 use Rattle.propagation.specs.Logs.{named_keys, Frame, Entry, Leg, own, taken, sent, reply}
 use Rattle.propagation.specs.Logs.Entry.{Did, Took, Computed}
 use Rattle.propagation.specs.Rules.{Accepted, with_log, Follows, SentAll, SentBefore, next, Quiet, Opening}
-use Rattle.propagation.proofs.Lists.{numbered-below, Has-older}
+use Rattle.propagation.proofs.Lists.{Has-older}
+use Rattle.propagation.proofs.NextTaken.{next-older, none-next}
 use Rattle.propagation.proofs.Naming.{frames_name_born}
 use Rattle.propagation.proofs.Legs.{legal_is_kept}
 use Rattle.propagation.proofs.Settling.{quiet_is_settled}
@@ -33,29 +34,6 @@ use Rattle.service_machine.specs.Openings.{new_state, opened_with, first_slots, 
 use Rattle.service_machine.proofs.Opening.{rested, new-rested, opening-fits, grown}
 use Rattle.service_machine.proofs.QuietLegs.{rest_by_quiet, legs_open}
 use Rattle.service_machine.proofs.QuietTurns.{quiet_by_turns}
-
--- ---- lists
-
-module _ {A : Type 0} where
-  -- the one before which as many came as are in the older part comes next
-  numbered-next : (newer older : List A) (x : A) → numbered (newer ++ older) (length older) ≡ Some x → IsOlderPart (x ∷ older) (newer ++ older)
-  numbered-next [] older x e = absurd (let lt : length older < length older = numbered-below older (length older) x e in omega arith)
-  numbered-next (y ∷ []) older x e = ([], ap (λ z. z ∷ older) (let same : x ≡ y = (let eq : Some y ≡ Some x = sym (cond-true (length older == length older) (Some y) (numbered older (length older)) (eq-eqb (length older) (length older) refl)) ∙ e in cc eq) in same))
-  numbered-next (y ∷ z ∷ rest) older x e =
-      let more : length (z ∷ rest ++ older) ≡ suc (length rest + length older) = ap suc (length-append rest older) in
-      let w = numbered-next (z ∷ rest) older x (sym (cond-false (length (z ∷ rest ++ older) == length older) (Some y) (numbered (z ∷ rest ++ older) (length older)) (ne_eqb (length (z ∷ rest ++ older)) (length older) (λ same. omega arith))) ∙ e) in
-      (y ∷ w.0, ap (λ zs. y ∷ zs) w.1)
-
-  -- and where there is none, all came
-  numbered-none : (newer older : List A) → numbered (newer ++ older) (length older) ≡ None → older ≡ newer ++ older
-  numbered-none [] older e = refl
-  numbered-none (y ∷ rest) older e =
-      elim (cases_Bool (length (rest ++ older) == length older)) [
-        | inl t ↦ absurd (let eq : Some y ≡ None = sym (cond-true (length (rest ++ older) == length older) (Some y) (numbered (rest ++ older) (length older)) t) ∙ e in cc eq)
-        | inr t ↦
-            (let same : older ≡ rest ++ older = numbered-none rest older (sym (cond-false (length (rest ++ older) == length older) (Some y) (numbered (rest ++ older) (length older)) t) ∙ e) in
-            absurd (eqb-false (length (rest ++ older)) (length older) t (sym (ap (λ (xs : List A). length xs) same))))
-      ]
 
 module _ {V : Type 0} where
   sent-more : (q : ℕ) (log more : List (Entry V)) → Sends log more → IsOlderPart (sent q log) (sent q more)
@@ -148,9 +126,7 @@ module _ {V D : Type 0} (g : Leg V D) (rank : ℕ → ℕ) (low : ℕ → Stamps
 
   module _ (p : ℕ) (f : Frame V) (is : in_flight w.logs n p ≡ Some f) where
     next_is : IsOlderPart (f ∷ taken p log) (sent n (w.logs p))
-    next_is =
-        let (newer, parts) = h.legal.in_order n p in
-        subst (λ (fs : List (Frame V)). IsOlderPart (f ∷ taken p log) fs) parts (numbered-next newer (taken p log) f (ap (λ (fs : List (Frame V)). numbered fs (length (taken p log))) parts ∙ is))
+    next_is = next-older f (taken p log) (sent n (w.logs p)) (h.legal.in_order n p) is
 
     names : (0 < now g.book n) × (0 < now g.book p) × ((q : ℕ) → Has (named_keys f) q → 0 < now g.book q)
     names = frames_name_born V D g rank w.logs acc h.legal n p f (Has-older (f ∷ taken p log) (sent n (w.logs p)) f next_is (inl refl))
@@ -206,7 +182,7 @@ module _ {V D : Type 0} (g : Leg V D) (rank : ℕ → ℕ) (low : ℕ → Stamps
   quiet-is : Quiet g w.logs
   quiet-is =
       quiet_by_turns V D g rank w.logs low w.states acc h.legal h.ids h.fits old
-      (λ n p. (let (newer, parts) = h.legal.in_order n p in numbered-none newer (taken p (w.logs n)) (ap (λ (fs : List (Frame V)). numbered fs (length (taken p (w.logs n)))) parts ∙ q.none_in_flight n p) ∙ parts))
+      (λ n p. none-next (taken p (w.logs n)) (sent n (w.logs p)) (h.legal.in_order n p) (q.none_in_flight n p))
       q.all_done q.no_move q.no_work
 
   module _ (more : ℕ → List D) (n : ℕ) where
