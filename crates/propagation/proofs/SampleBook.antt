@@ -4,6 +4,7 @@ use Rattle.std.specs.Prelude.{Decides}
 use Rattle.std.specs.List.{list_all}
 use Rattle.std.proofs.lemmas.Bool.Decides.{Decides-ltb}
 use Rattle.std.proofs.lemmas.List.{get_or_past}
+use Rattle.propagation.proofs.Lists.{slice_get-Has}
 use Rattle.propagation.specs.Words.{Has}
 use Rattle.propagation.specs.History.{edge, Book, names_of, deps, now}
 use Rattle.propagation.specs.Logs.{Emission, Entry, Leg, kept_under, stamps_of}
@@ -60,11 +61,6 @@ past_end xs n le = get_or_past xs n [] le
 
 pub family_silent : {V : Type 0} (printed : List (List (Entry V))) (n : ℕ) → length printed ≤ n → family printed n ≡ []
 family_silent printed n le = ap (λ xs. reverse xs) (past_end printed n le)
-
-slice_get-Has : {A : Type 0} (xs : List A) (c : ℕ) (x : A) → slice_get xs c ≡ Some x → Has xs x
-slice_get-Has [] c x is = absurd (cc is)
-slice_get-Has (y ∷ xs) zero x is = inl (cc is)
-slice_get-Has (y ∷ xs) (suc c) x is = inr (slice_get-Has xs c x is)
 
 -- each dependency is of lower rank and born by the end, and no clock falls
 abbrev pub is_accepted : {V D : Type 0} → ℕ → Leg V D → (ℕ → ℕ) → Bool

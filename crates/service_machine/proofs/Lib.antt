@@ -35,3 +35,4 @@ pub mod Noting
 pub mod Counting
 pub mod Refusing
 pub mod Nodes
+pub mod Alone

@@ -1,5 +1,5 @@
 -- A leg that begins at rest fits: nothing is taken, sent or done, so what the state keeps is what the opening says of it.
-use Rattle.std.proofs.Common.{◌≡◌, ℕ, zero, suc, ◌+◌, ◌<◌, ◌≤◌, List, [], ◌∷◌, ◌++◌, map, length, slice_get, Option, Some, None, inl, inr, refl, sym, ap, ap₂, ◌∙◌, subst, arith, ◌==◌, eq-eqb, ne_eqb, eqb-true, le_refl, if◌then◌else◌, unwrap_or}
+use Rattle.std.proofs.Common.{◌≡◌, ℕ, zero, suc, ◌+◌, ◌<◌, ◌≤◌, List, [], ◌∷◌, ◌++◌, map, length, slice_get, Option, Some, None, inl, inr, refl, sym, ap, ap₂, ◌∙◌, subst, arith, ◌==◌, eq-eqb, ne_eqb, eqb-true, le_refl, if◌then◌else◌, unwrap_or, length-append}
 use Rattle.std.proofs.lemmas.Bool.{cond-true, cond-false, cases_Bool, eqb-false}
 use Rattle.propagation.specs.Words.{Has, latest, as_list, is_among}
 use Rattle.propagation.specs.History.{Book, definition, names_of, deps, edge}
@@ -224,17 +224,13 @@ slice_get-back : {D : Type 0} (xs ys : List D) (i : ℕ) → slice_get (xs ++ ys
 slice_get-back [] ys i = ap (slice_get ys) (let e : 0 + i ≡ i = omega arith in e)
 slice_get-back (x ∷ xs) ys i = ap (slice_get (x ∷ xs ++ ys)) (let e : suc (length xs) + i ≡ suc (length xs + i) = omega arith in e) ∙ slice_get-back xs ys i
 
-length-both : {D : Type 0} (xs ys : List D) → length (xs ++ ys) ≡ length xs + length ys
-length-both [] ys = omega arith
-length-both (x ∷ xs) ys = let e : length (xs ++ ys) ≡ length xs + length ys = length-both xs ys in omega arith
-
 pub grown : {V D : Type 0} (names : D → List ℕ) (meaning : D → List V → V) (old new : ℕ → List D) (n : ℕ) (ds : List D) → new n ≡ old n ++ ds →
     Grows (record { names = names; meaning = meaning; history = old }) n (length (old n)) ds (record { names = names; meaning = meaning; history = new })
 grown {V} {D} names meaning old new n ds is = record {
   same = same;
   same_deps = λ k le. ap (λ o. names_of (record { names = names; meaning = meaning; history = old }) o) (same k le);
   more = λ i. ap (λ (xs : List D). slice_get xs (length (old n) + i)) is ∙ slice_get-back (old n) ds i;
-  all = ap (λ (xs : List D). length xs) is ∙ length-both (old n) ds;
+  all = ap (λ (xs : List D). length xs) is ∙ length-append (old n) ds;
 }
   where
     same : (k : ℕ) → k ≤ length (old n) → definition (record { names = names; meaning = meaning; history = old }) n k ≡ definition (record { names = names; meaning = meaning; history = new }) n k

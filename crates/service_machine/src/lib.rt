@@ -6,7 +6,7 @@
 ghost use Rattle.service_machine.specs.Laws.{OpeningsFit, StepsFit, TurnsRest, MovesAreKept, StampsGoForth, NumbersAreSmall, FramesAreTaken, AccordIsKept, QuietByTurns, RestByQuiet, LegsOpen};
 ghost use Rattle.service_machine.specs.Noting.{NotesAreFollowed, SchedulesJoin};
 ghost use Rattle.service_machine.specs.Refusing.{RefusalsAreExact};
-ghost use Rattle.service_machine.specs.Nodes.{NodesFit, NodesGather};
+ghost use Rattle.service_machine.specs.Nodes.{NodesFit, NodesGather, NodesLive};
 ghost use Rattle.service_machine.specs.Draining.{PassesEndQuiet, PassesJoin, TurnsEnd, DrainEndsQuiet};
 ghost use Rattle.service_machine.specs.Systems.{SchedulesAreLegal, FlightsAreAccepted, QuietSystemsAreSettled, SystemsGoOn};
 
@@ -23,6 +23,11 @@ pub fn steps_fit<V, D>()
 /// A node keeps this of itself without knowing the leg.
 pub fn nodes_fit<V, D>()
     ensures { NodesFit V D }
+{}
+
+/// A node alone keeps the rules from leg to leg, whatever its peers send.
+pub fn nodes_live<V, D>()
+    ensures { NodesLive V D }
 {}
 
 /// Nodes that took only what was sent to them make a system that fits.
