@@ -45,3 +45,4 @@ pub mod SampleFloor
 pub mod SampleEpochs
 pub mod SampleNewDefinition
 pub mod SampleNewKeys
+pub mod SampleVariants
