@@ -1,9 +1,9 @@
 -- What a history keeps when a body or a version is appended.
-use Rattle.std.proofs.Common.{◌≡◌, ℕ, ◌-◌, true, not, ◌==◌, filter, List, [], ◌∷◌, ◌++◌, length, length-append, slice_get, Option, Some, None, refl, ap, sym, ◌∙◌, arith}
+use Rattle.std.proofs.Common.{◌≡◌, ℕ, ◌-◌, true, not, ◌==◌, filter, List, [], ◌∷◌, ◌++◌, length, length-append, slice_get, get_or, zero, suc, ◌≤◌, ◌<◌, Option, Some, None, refl, ap, sym, ◌∙◌, arith}
 use Rattle.std.proofs.lemmas.Bool.{lt-ltb, ltb-true}
 use Rattle.std.proofs.lemmas.List.{map-append, length-map}
 use Rattle.std.proofs.lemmas.List.Folds.{list_all-append}
-use Rattle.std.proofs.lemmas.Option.{slice_get-map}
+use Rattle.std.proofs.lemmas.Option.{slice_get-map, slice_get-get_or}
 use Rattle.std.specs.Cmp.Derive.{both_true}
 use Rattle.std.specs.List.{list_all}
 use Rattle.std.specs.Option.{option_map}
@@ -13,7 +13,7 @@ use Rattle.svc_graph.specs.declared.definition.Change.TheVariants.{Add, Drop}
 use Rattle.svc_graph.specs.declared.history.Body.{Body}
 use Rattle.svc_graph.specs.declared.history.Version.{Version}
 use Rattle.svc_graph.specs.declared.history.Version.TheVariants.{Input, Derived}
-use Rattle.svc_graph.specs.History.{present, brought, next_definition}
+use Rattle.svc_graph.specs.History.{at_clock, present, brought, next_definition}
 use Rattle.svc_graph.specs.Versions.{with_members, definition_of, definitions, is_within, HasBodies, with_member, without_member}
 
 -- a version with a body that is there stands for the same definition beside one body more
@@ -107,3 +107,12 @@ definitions-changed bodies versions last version change at next =
     map-append (definition_of bodies) versions (version ∷ []) ∙
     (λ i. definitions bodies versions ++ next i ∷ []) ∙
     (λ i. definitions bodies versions ++ brought (sym (present-last bodies versions last at) i) change)
+
+-- the version before a clock is the definition at it
+pub at_clock-definitions : (bodies : List Body) (versions : List Version) (clock k : ℕ) (version : Version) → 1 ≤ clock → k ≡ clock - 1 → k < length versions → version ≡ get_or versions k version →
+    Some (definition_of bodies version) ≡ at_clock (definitions bodies versions) clock
+at_clock-definitions bodies versions zero k version born place within read = absurd (omega arith)
+at_clock-definitions bodies versions (suc c) k version born place within read =
+    let same : k ≡ c = omega arith in
+    ap (λ v. Some (definition_of bodies v)) read ∙ ap (option_map (definition_of bodies)) (sym (slice_get-get_or versions k version within)) ∙
+    sym (slice_get-map (definition_of bodies) versions k) ∙ ap (slice_get (definitions bodies versions)) same

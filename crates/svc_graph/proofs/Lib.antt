@@ -3,3 +3,4 @@ pub mod Keeping
 pub mod Lists
 pub mod Naming
 pub mod Rows
+pub mod Untyped

@@ -1,6 +1,8 @@
 -- Small facts on lists and tests.
+use Rattle.propagation.specs.Words.{is_among}
+use Rattle.std.specs.List.{list_any}
 use Rattle.std.specs.Prelude.{Result, Ok, Err, OnErr}
-use Rattle.std.proofs.Common.{◌≡◌, ℕ, zero, suc, ◌<◌, Bool, true, false, ◌&&◌, List, [], ◌∷◌, ◌++◌, length, slice_get, Some, refl, arith}
+use Rattle.std.proofs.Common.{◌≡◌, ℕ, zero, suc, ◌<◌, Bool, true, false, ◌&&◌, ◌||◌, ◌==◌, if◌then◌else◌, List, [], ◌∷◌, ◌++◌, length, slice_get, Some, refl, arith}
 
 -- both tests hold where their conjunction does
 pub and_left : (a b : Bool) → (a && b) ≡ true → a ≡ true
@@ -29,3 +31,21 @@ slice_get-push (x ∷ xs) y = slice_get-push xs y
 pub on_err : {T E P : Type 0} (r : Result T E) → P → OnErr r P
 on_err (Ok x) p = tt
 on_err (Err e) p = p
+
+-- a number is in a list where some number there is it
+pub is_among-list_any : (ps : List ℕ) (q : ℕ) → is_among ps q ≡ list_any (λ p. p == q) ps
+is_among-list_any [] q = refl
+is_among-list_any (p ∷ ps) q = by (p == q) (is_among-list_any ps q)
+  where
+    by : (b : Bool) → is_among ps q ≡ list_any (λ p'. p' == q) ps → (if b then true else is_among ps q) ≡ (b || list_any (λ p'. p' == q) ps)
+    by true h = refl
+    by false h = h
+
+-- a number is in two lists one after another where it is in one of them
+pub is_among_append : (ps qs : List ℕ) (q : ℕ) → is_among (ps ++ qs) q ≡ (is_among ps q || is_among qs q)
+is_among_append [] qs q = refl
+is_among_append (p ∷ ps) qs q = by (p == q) (is_among_append ps qs q)
+  where
+    by : (b : Bool) → is_among (ps ++ qs) q ≡ (is_among ps q || is_among qs q) → (if b then true else is_among (ps ++ qs) q) ≡ ((if b then true else is_among ps q) || is_among qs q)
+    by true h = refl
+    by false h = h

@@ -27,6 +27,11 @@ abbrev pub dependencies : Definition → List ℕ
 dependencies (Input value) = []
 dependencies (Derived formula) = formula.fixed ++ formula.members
 
+-- the definition at a clock; there is none at clock 0
+abbrev pub at_clock : List Definition → ℕ → Option Definition
+at_clock history zero = None
+at_clock history (suc c) = slice_get history c
+
 -- the last of the definitions, if there is one
 abbrev pub present : List Definition → Option Definition
 present history = slice_get history (length history - 1)

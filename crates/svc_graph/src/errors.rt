@@ -79,3 +79,14 @@ impl From<OutOfMemory> for ChangeError {
         ChangeError::OutOfMemory
     }
 }
+
+impl From<AllocError> for ChangeError {
+    ghost use Rattle.svc_graph.specs.declared.errors.ChangeError.TheVariants.{OutOfMemory};
+    ghost use Rattle.std.specs.Prelude.{◌≡◌};
+
+    ghost from_gives = { λ _ e. e ≡ OutOfMemory };
+
+    fn from(_: AllocError) -> Self {
+        ChangeError::OutOfMemory
+    }
+}

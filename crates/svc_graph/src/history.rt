@@ -1,8 +1,9 @@
 // The accepted definitions of one service.
-ghost use Rattle.std.specs.Prelude.{◌≡◌, ◌++◌, ◌∷◌, [], ◌==◌, not, true, filter, length, None, IfOk, OnOk, OnErr};
-ghost use Rattle.svc_graph.specs.Versions.{with_member, without_member};
+ghost use Rattle.std.specs.Prelude.{◌≡◌, ◌++◌, ◌∷◌, [], ◌==◌, not, true, filter, length, option_map, None, IfOk, OnOk, OnErr};
+ghost use Rattle.svc_graph.specs.Lent.{definition_lent};
+ghost use Rattle.svc_graph.specs.Versions.{definition_of, is_within, with_member, without_member};
 
-use crate::{Change, Definition, Formula};
+use crate::{Change, Definition, DefinitionRef, Formula, FormulaRef};
 use std::alloc::Global;
 use std::marker::Model;
 use svc_expr::Expr;
@@ -49,6 +50,24 @@ impl Model for History {
     ghost invariant = { λ h. HasBodies h.bodies.items h.versions.items };
 }
 
+// The definition that a version stands for, lent.
+fn lent<'a>(bodies: &'a [Body], version: &'a Version) -> DefinitionRef<'a>
+    requires { is_within bodies.now version.now ≡ true }
+    ensures { definition_lent result ≡ definition_of bodies.now version.now }
+{
+    match version {
+        Version::Input(value) => DefinitionRef::Input(value),
+        Version::Derived(number, members) => {
+            let body = &bodies[*number];
+            DefinitionRef::Derived(FormulaRef {
+                expr: &body.expr,
+                fixed: body.fixed.as_slice(),
+                members: members.as_slice(),
+            })
+        }
+    }
+}
+
 // A version with one member more.
 fn with_member(alloc: Global, version: &Version, member: ServiceId) -> Result<Version, OutOfMemory>
     ensures { IfOk result (λ next. next ≡ with_member version.now member) }
@@ -92,7 +111,7 @@ fn others(alloc: Global, members: &[ServiceId], member: ServiceId) -> Result<Ids
 }
 
 impl History {
-    ghost use Rattle.svc_graph.specs.History.{present, brought, is_birth};
+    ghost use Rattle.svc_graph.specs.History.{at_clock, present, brought, is_birth};
     ghost use Rattle.svc_graph.specs.declared.definition.Definition.TheVariants.{Derived};
 
     /// No definition yet. The history takes its memory from `alloc`.
@@ -111,6 +130,21 @@ impl History {
         ensures { result ≡ length self.now }
     {
         self.versions.len()
+    }
+
+    /// The definition at the clock `clock`, lent; `None` exactly where the clock is 0 or past the last one.
+    pub fn at(&self, clock: usize) -> Option<DefinitionRef<'_>>
+        ensures { option_map definition_lent result ≡ at_clock self.now clock }
+    {
+        let version = self.versions.get(clock.checked_sub(1)?)?;
+        Some(lent(self.bodies.as_slice(), version))
+    }
+
+    /// The last definition, lent; `None` exactly before the birth.
+    pub fn present(&self) -> Option<DefinitionRef<'_>>
+        ensures { option_map definition_lent result ≡ present self.now }
+    {
+        self.at(self.versions.len())
     }
 
     /// Appends the definition that `change` brings. After `OutOfMemory` the history is as it was, and the change is dropped.

@@ -4,13 +4,16 @@
 #![tactic(auto)]
 
 mod book;
+mod checks;
 mod definition;
 mod errors;
 mod history;
 mod kind;
+mod lent;
 
 pub use book::{Book, MOST_SERVICES};
 pub use definition::{Change, Definition, Formula};
 pub use errors::{ChangeError, DeclareError};
 pub use history::History;
 pub use kind::{Kind, Roster};
+pub use lent::{DefinitionRef, FormulaRef};
