@@ -1,4 +1,7 @@
+pub mod Accepted
+pub mod Apart
 pub mod Books
+pub mod Changed
 pub mod Keeping
 pub mod Lists
 pub mod Naming

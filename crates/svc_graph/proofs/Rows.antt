@@ -1,14 +1,15 @@
 -- The rows that stand in three columns of one length.
-use Rattle.std.proofs.Common.{◌≡◌, ℕ, suc, ◌<◌, List, [], ◌∷◌, ◌++◌, map, length, length-append, get_or, position, refl, ap, sym, ◌∙◌, arith}
+use Rattle.std.proofs.Common.{◌≡◌, ℕ, suc, ◌<◌, List, [], ◌∷◌, ◌++◌, map, length, length-append, get_or, position, refl, ap, sym, ◌∙◌, arith, zero}
 use Rattle.std.specs.Str.{bytes_eq}
-use Rattle.std.proofs.Math.ListN.{get_or-map}
-use Rattle.std.proofs.lemmas.List.{get_or_default}
+use Rattle.std.proofs.Math.ListN.{get_or-map, set}
+use Rattle.std.proofs.lemmas.List.{get_or_default, length-set}
 use Rattle.svc_graph.specs.Book.{IsBook}
 use Rattle.svc_graph.specs.Columns.{rows_of, AreColumns}
+use Rattle.svc_graph.specs.declared.definition.Change.{Change}
 use Rattle.svc_graph.specs.declared.definition.Definition.{Definition}
 use Rattle.svc_graph.specs.declared.kind.Kind.{Kind}
 use Rattle.svc_value.specs.declared.value.ValueType.TheVariants.{Int}
-use Rattle.svc_graph.specs.History.{Row, row_at, names_in, place_of, roster_of, declared_row}
+use Rattle.svc_graph.specs.History.{Row, brought, changed, present, row_at, names_in, place_of, roster_of, declared_row}
 
 -- the row of a service that is not declared
 abbrev nobody : Row
@@ -60,6 +61,17 @@ rows_of-push (first ∷ names) (other ∷ kinds) [] name kind k h = absurd (omeg
 rows_of-push (first ∷ names) (other ∷ kinds) (history ∷ histories) name kind k h =
     ap (λ rows. record { name = first; rank = other.rank; ty = other.ty; history = history } ∷ rows) (rows_of-push names kinds histories name kind (omega arith) (omega arith))
 
+-- a row with a change
+pub rows_of-changed : (names : List (List ℕ)) (kinds : List Kind) (histories : List (List Definition)) (n : ℕ) (history : List Definition) (change : Change) → length kinds ≡ length names → length histories ≡ length names →
+    n < length names → history ≡ get_or histories n history → rows_of names kinds (set histories n (history ++ brought (present history) change)) ≡ changed (rows_of names kinds histories) n change
+rows_of-changed [] kinds histories n history change k h within read = absurd (omega arith)
+rows_of-changed (name ∷ names) [] histories n history change k h within read = absurd (omega arith)
+rows_of-changed (name ∷ names) (kind ∷ kinds) [] n history change k h within read = absurd (omega arith)
+rows_of-changed (name ∷ names) (kind ∷ kinds) (first ∷ histories) zero history change k h within read =
+    λ i. record { name = name; rank = kind.rank; ty = kind.ty; history = read i ++ brought (present (read i)) change } ∷ rows_of names kinds histories
+rows_of-changed (name ∷ names) (kind ∷ kinds) (first ∷ histories) (suc n) history change k h within read =
+    ap (λ rows. record { name = name; rank = kind.rank; ty = kind.ty; history = first } ∷ rows) (rows_of-changed names kinds histories n history change (omega arith) (omega arith) (omega arith) read)
+
 -- ---- the same of columns that are those of a book
 
 module _ {names : List (List ℕ)} {kinds : List Kind} {histories : List (List Definition)} (h : AreColumns names kinds histories) where
@@ -99,4 +111,14 @@ AreColumns-push {names} {kinds} {histories} h name kind book =
       kinds_len = rw length-append (rw length-append (omega (arith, h.kinds_len)));
       histories_len = rw length-append (rw length-append (omega (arith, h.histories_len)));
       book = rw (rows_of-push names kinds histories name kind h.kinds_len h.histories_len) book;
+    }
+
+-- a definition more in one history
+pub AreColumns-changed : {names : List (List ℕ)} {kinds : List Kind} {histories : List (List Definition)} → AreColumns names kinds histories → (n : ℕ) (history : List Definition) (change : Change) →
+    n < length names → history ≡ get_or histories n history → IsBook (changed (rows_of names kinds histories) n change) → AreColumns names kinds (set histories n (history ++ brought (present history) change))
+AreColumns-changed {names} {kinds} {histories} h n history change within read book =
+    record {
+      kinds_len = h.kinds_len;
+      histories_len = length-set histories n (history ++ brought (present history) change) ∙ h.histories_len;
+      book = rw (rows_of-changed names kinds histories n history change h.kinds_len h.histories_len within read) book;
     }

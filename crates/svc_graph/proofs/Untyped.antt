@@ -1,5 +1,5 @@
 -- Where some part of an expression has no type, the whole has none.
-use Rattle.std.proofs.Common.{◌≡◌, ℕ, ◌+◌, Bool, true, false, ◌&&◌, ◌||◌, cond, List, [], ◌∷◌, ◌++◌, Option, Some, None, is_some, is_none, slice_get, refl, sym, ap, subst, inl, inr, ◌⊎◌, ◌∙◌, true≢false}
+use Rattle.std.proofs.Common.{◌≡◌, ℕ, ◌+◌, Bool, true, false, ◌||◌, cond, List, [], ◌∷◌, ◌++◌, Option, Some, None, is_some, is_none, refl, sym, ap, inl, inr, ◌⊎◌, ◌∙◌, true≢false}
 use Rattle.std.proofs.lemmas.List.Folds.{list_any-append}
 use Rattle.std.specs.List.{list_any, list_all, position_from}
 use Rattle.std.specs.Option.{option_and_then}
@@ -48,23 +48,23 @@ untyped types (negated a) h = one types (converted Int Int) (negated a) a refl (
 untyped types (denied a) h = one types (converted Int Int) (denied a) a refl (untyped types a) h
 untyped types (pair op a b) h =
     elim (or_cases (is_mistyped types (pair op a b)) _ h) [
-      inl here ↦ root types (pair op a b) here
-    | inr there ↦ elim (or_cases _ _ (sym (list_any-append (is_mistyped types) (parts a) (parts b)) ∙ there)) [
-        inl left ↦ ap (option_and_then (λ x. option_and_then (pair_type op x) (type_in b types))) (untyped types a left)
-      | inr right ↦ ap (λ o. option_and_then (λ x. option_and_then (pair_type op x) o) (type_in a types)) (untyped types b right) ∙ after (type_in a types)
+      | inl here ↦ root types (pair op a b) here
+      | inr there ↦ elim (or_cases _ _ (sym (list_any-append (is_mistyped types) (parts a) (parts b)) ∙ there)) [
+        | inl left ↦ ap (option_and_then (λ x. option_and_then (pair_type op x) (type_in b types))) (untyped types a left)
+        | inr right ↦ ap (λ o. option_and_then (λ x. option_and_then (pair_type op x) o) (type_in a types)) (untyped types b right) ∙ after (type_in a types)
       ]
     ]
 untyped types (choice c a b) h =
     elim (or_cases (is_mistyped types (choice c a b)) _ h) [
-      inl here ↦ root types (choice c a b) here
-    | inr there ↦ elim (or_cases _ _ (sym (list_any-append (is_mistyped types) (parts c ++ parts a) (parts b)) ∙ there)) [
-        inl first ↦ elim (or_cases _ _ (sym (list_any-append (is_mistyped types) (parts c) (parts a)) ∙ first)) [
-          inl condition ↦ ap (option_and_then (λ z. option_and_then (λ x. option_and_then (choice_type z x) (type_in b types)) (type_in a types))) (untyped types c condition)
-        | inr left ↦ ap (λ o. option_and_then (λ z. option_and_then (λ x. option_and_then (choice_type z x) (type_in b types)) o) (type_in c types)) (untyped types a left) ∙ after (type_in c types)
+      | inl here ↦ root types (choice c a b) here
+      | inr there ↦ elim (or_cases _ _ (sym (list_any-append (is_mistyped types) (parts c ++ parts a) (parts b)) ∙ there)) [
+        | inl first ↦ elim (or_cases _ _ (sym (list_any-append (is_mistyped types) (parts c) (parts a)) ∙ first)) [
+          | inl condition ↦ ap (option_and_then (λ z. option_and_then (λ x. option_and_then (choice_type z x) (type_in b types)) (type_in a types))) (untyped types c condition)
+          | inr left ↦ ap (λ o. option_and_then (λ z. option_and_then (λ x. option_and_then (choice_type z x) (type_in b types)) o) (type_in c types)) (untyped types a left) ∙ after (type_in c types)
         ]
-      | inr right ↦
-        ap (λ o. option_and_then (λ z. option_and_then (λ x. option_and_then (choice_type z x) o) (type_in a types)) (type_in c types)) (untyped types b right) ∙
-        ap (λ o. option_and_then (λ (z : ValueType). o) (type_in c types)) (after (type_in a types)) ∙ after (type_in c types)
+        | inr right ↦
+            ap (λ o. option_and_then (λ z. option_and_then (λ x. option_and_then (choice_type z x) o) (type_in a types)) (type_in c types)) (untyped types b right) ∙
+            ap (λ o. option_and_then (λ (z : ValueType). o) (type_in c types)) (after (type_in a types)) ∙ after (type_in c types)
       ]
     ]
 untyped types (len_of a) h = one types (converted Text Int) (len_of a) a refl (untyped types a) h

@@ -1,5 +1,4 @@
 -- A definition that is lent in its parts.
-use Rattle.std.specs.Prelude.{Option, None, Some}
 use Rattle.svc_graph.specs.declared.definition.Definition.{Definition}
 use Rattle.svc_graph.specs.declared.definition.Definition.TheVariants as definition
 use Rattle.svc_graph.specs.declared.definition.Formula.{Formula}

@@ -1,9 +1,10 @@
 // The names, ranks, types and histories of all services.
-ghost use Rattle.std.specs.Prelude.{◌≡◌, ◌≤◌, ◌<◌, ◌++◌, ◌∷◌, ◌↔◌, [], length, position, vec_len, vec_capacity, IsSome, IsNone, IsErrOf, IfOk, OnOk, OnErr};
+ghost use Rattle.std.specs.Prelude.{◌≡◌, ◌≤◌, ◌<◌, ◌++◌, ◌∷◌, ◌↔◌, ◌≢◌, None, Some, [], length, position, vec_len, vec_capacity, IsSome, IsNone, IsErrOf, IfOk, IfErr, OnOk, OnErr};
 ghost use Rattle.std.specs.Str.{bytes_eq};
 ghost use Rattle.svc_graph.specs.Columns.{bytes_of};
 
-use crate::{DeclareError, History, Kind, Roster};
+use crate::checks::check;
+use crate::{Change, ChangeError, DeclareError, History, Kind, Roster};
 use indexmap::IndexSet;
 use std::alloc::Global;
 use std::marker::Model;
@@ -68,8 +69,10 @@ fn push_reserved<T: Drop>(items: &mut Vec<T>, item: T)
 }
 
 impl Book {
+    ghost use Rattle.svc_graph.specs.Accepting.{IsChangeOf};
     ghost use Rattle.svc_graph.specs.Book.{IsBook};
-    ghost use Rattle.svc_graph.specs.History.{declared_row, place_of, roster_of, row_at};
+    ghost use Rattle.svc_graph.specs.Refusals.{refusal_of};
+    ghost use Rattle.svc_graph.specs.History.{changed, declared_row, history_of, place_of, roster_of, row_at};
 
     /// The book without services, which takes its memory from `alloc`.
     pub fn new(alloc: Global) -> Book
@@ -128,6 +131,52 @@ impl Book {
         Ok(ServiceId(number as u16))
     }
 
+    /// Accepts a change of the service `id`, whose history then has one definition more: a birth brings its own, and any other
+    /// change what it makes of the last one. The error is that of the first test of the change that holds, as `ChangeError` lists
+    /// them, or `OutOfMemory` in place of any answer but `Unknown` and `RankNotLower`; it leaves the book as it was, and the change
+    /// is dropped.
+    pub fn accept(&mut self, id: ServiceId, change: Change) -> Result<(), ChangeError>
+        requires { IsChangeOf self.old id change }
+        ensures ok { OnOk result (self.new ≡ changed self.old id change) }
+        ensures passes { OnOk result (refusal_of self.old id change ≡ None) }
+        ensures refused { IfErr result (λ e. e ≢ ChangeError.OutOfMemory → refusal_of self.old id change ≡ Some e) }
+        ensures err { OnErr result (self.new ≡ self.old) }
+    {
+        self.test(id, &change)?;
+        Ok(self.grow(id, change)?)
+    }
+
+    // Makes all tests of a change.
+    fn test(&self, id: ServiceId, change: &Change) -> Result<(), ChangeError>
+        requires { IsChangeOf self.now id change.now }
+        ensures passes { OnOk result (refusal_of self.now id change.now ≡ None) }
+        ensures refused { IfErr result (λ e. e ≢ ChangeError.OutOfMemory → refusal_of self.now id change.now ≡ Some e) }
+    {
+        let last = self.history(id).present();
+        check(self.alloc, self.kinds.as_slice(), id, last, change)
+    }
+
+    // Appends the definition that a change brings of which no test holds.
+    fn grow(&mut self, id: ServiceId, change: Change) -> Result<(), OutOfMemory>
+        requires form { IsChangeOf self.old id change }
+        requires passes { refusal_of self.old id change ≡ None }
+        ensures ok { OnOk result (self.new ≡ changed self.old id change) }
+        ensures err { OnErr result (self.new ≡ self.old) }
+    {
+        let history = &mut self.histories[place(id)];
+        history.append(change)?;
+        Ok(())
+    }
+
+    /// The accepted definitions of the service `id`, lent.
+    pub fn history(&self, id: ServiceId) -> &History
+        requires { id < length self.now }
+        ensures history { result.now ≡ history_of self.now id }
+        ensures clock { length result.now ≤ 1024000 }
+    {
+        &self.histories[place(id)]
+    }
+
     /// The service with this name; `None` exactly where none is declared.
     pub fn find(&self, name: &str) -> Option<ServiceId>
         ensures { result ≡ place_of self.now name.now }
@@ -155,9 +204,9 @@ impl Book {
     /// How many changes of the service `id` were accepted; 0 before its birth.
     pub fn clock(&self, id: ServiceId) -> Clock
         requires { id < length self.now }
-        ensures { result ≡ length (row_at self.now id).history }
+        ensures { result ≡ length (history_of self.now id) }
     {
-        Clock(self.histories[place(id)].len() as u32)
+        Clock(self.history(id).len() as u32)
     }
 
     /// The ranks and the types of all services, in the order of declaration.

@@ -106,11 +106,7 @@ fn repeats(names: &[ServiceId], members: &[ServiceId]) -> bool
 }
 
 // The types of services.
-fn types_of(
-    alloc: Global,
-    kinds: &[Kind],
-    ids: &[ServiceId],
-) -> Result<Vec<ValueType>, AllocError>
+fn types_of(alloc: Global, kinds: &[Kind], ids: &[ServiceId]) -> Result<Vec<ValueType>, AllocError>
     ensures { IfOk result (λ types. types.items ≡ map (λ p. (kind_at kinds.now p).ty) ids.now) }
 {
     ids.iter().map(|p| kind_of(kinds, *p).ty).collect(alloc)
@@ -138,8 +134,10 @@ fn is_ill_typed(
     ensures { IfOk result (λ holds. holds ≡ is_ill_typed kinds.now id formula.now) }
 {
     let types = types_of(alloc, kinds, formula.fixed.as_slice())?;
-    Ok(!has_type(&formula.expr, types.as_slice(), kind_of(kinds, id).ty)
-        || needs_int_members(&formula.expr) && any_text(kinds, formula.members.as_slice()))
+    Ok(
+        !has_type(&formula.expr, types.as_slice(), kind_of(kinds, id).ty)
+            || needs_int_members(&formula.expr) && any_text(kinds, formula.members.as_slice()),
+    )
 }
 
 // Whether a formula has more than 16 dependencies.
@@ -219,8 +217,7 @@ fn names_unknown(kinds: &[Kind], id: ServiceId, change: &Change) -> bool
 fn any_named_high(kinds: &[Kind], id: ServiceId, formula: &Formula) -> bool
     ensures { result ≡ any_named (is_high kinds.now id) formula.now }
 {
-    any_high(kinds, id, formula.fixed.as_slice())
-        || any_high(kinds, id, formula.members.as_slice())
+    any_high(kinds, id, formula.fixed.as_slice()) || any_high(kinds, id, formula.members.as_slice())
 }
 
 // Whether the change names a dependency that has no lower rank.

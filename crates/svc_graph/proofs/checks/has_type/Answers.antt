@@ -1,4 +1,4 @@
-use Rattle.std.proofs.Common.{◌≡◌, sym, ap}
+use Rattle.std.proofs.Common.{sym, ap}
 use Rattle.svc_expr.specs.Tree.{tree_of}
 use Rattle.svc_graph.proofs.Untyped.{untyped_where_found}
 use Rattle.svc_graph.specs.Refusals.{is_type}

@@ -1,4 +1,4 @@
-use Rattle.std.proofs.Common.{◌≡◌, ◌∙◌, sym}
+use Rattle.std.proofs.Common.{◌∙◌, sym}
 use Rattle.svc_graph.proofs.Lists.{is_among-list_any}
 use Rattle.svc_graph.proofs.checks.is_among.Goals as goal
 

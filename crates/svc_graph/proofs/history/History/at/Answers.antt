@@ -1,4 +1,4 @@
-use Rattle.std.proofs.Common.{◌≡◌, ◌∙◌, ◌<◌, length, get_or, Some, sym, ap}
+use Rattle.std.proofs.Common.{◌∙◌, ◌<◌, length, get_or, Some, ap}
 use Rattle.svc_graph.proofs.Keeping.{at_clock-definitions}
 use Rattle.svc_graph.specs.History.{at_clock}
 use Rattle.svc_graph.specs.Versions.{definition_of}
