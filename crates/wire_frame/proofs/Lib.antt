@@ -1,5 +1,15 @@
 pub mod Always
+pub mod Counting
 pub mod Cutting
+pub mod Digits
 pub mod Fronts
 pub mod Items
 pub mod Parts
+pub mod Putting
+pub mod Readable
+pub mod Reading
+pub mod Rising
+pub mod Standing
+pub mod Told
+pub mod Valued
+pub mod Whole

@@ -1,10 +1,10 @@
 -- Parts that stand one behind the other.
-use Rattle.std.proofs.Common.{◌≡◌, ◌∙◌, sym, ap, refl, subst, ℕ, zero, suc, ◌+◌, ◌-◌, ◌<◌, ◌≤◌, ◌⊎◌, inl, inr, List, [], ◌∷◌, ◌++◌, length, get_or, take, drop, arith, append_assoc, append-nil}
-use Rattle.std.proofs.lemmas.List.{length-append, length-take, take-append-drop, take-append-le, take_at, drop_at, take_all, take-take, get_or_append_left, get_or-append-add, append_cancel_left}
+use Rattle.std.proofs.Common.{◌≡◌, ◌∙◌, sym, ap, refl, subst, ℕ, suc, ◌+◌, ◌<◌, inl, inr, List, [], ◌∷◌, ◌++◌, length, get_or, take, drop, arith, append_assoc, append-nil}
+use Rattle.std.proofs.lemmas.List.{length-append, take-append-drop, take-append-le, take_at, take-take, get_or_append_left, get_or-append-add, append_cancel_left}
 use Rattle.std.proofs.lemmas.Bool.{cases_lt}
 use Rattle.wire_frame.specs.declared.reason.FrameReason.{FrameReason}
 use Rattle.wire_frame.specs.declared.reason.FrameReason.TheVariants.{Short}
-use Rattle.wire_frame.specs.Parts.{Part, IsWrong, IsNext}
+use Rattle.wire_frame.specs.Parts.{Part, IsWrong, IsNext, chain}
 
 -- whatever follows, the bytes tell what stands in front
 abbrev pub OneWay : {X : Type 0} → Part X → Type 0
@@ -20,14 +20,6 @@ taken_past [] ys k = let e : 0 + k ≡ k = omega arith in ap (λ n. take n ys) e
 taken_past (x ∷ xs) ys k =
     let e : suc (length xs) + k ≡ suc (length xs + k) = omega arith in
     ap (λ n. take n (x ∷ xs ++ ys)) e ∙ ap (λ zs. x ∷ zs) (taken_past xs ys k)
-
--- one part, and behind it another, which it may decide
-abbrev pub chain : {X Y : Type 0} → Part X → (X → Part Y) → Part (X × Y)
-chain A B = record {
-  Good = λ p. A.Good p.0 × (B p.0).Good p.1;
-  bytes = λ p. A.bytes p.0 ++ (B p.0).bytes p.1;
-  fields = λ p. A.fields p.0 ++ (B p.0).fields p.1;
-}
 
 pub chain-one_way : {X Y : Type 0} (A : Part X) (B : X → Part Y) → OneWay A → ((x : X) → OneWay (B x)) → OneWay (chain A B)
 chain-one_way {X} {Y} A B one each p q s t good_p good_q e =
@@ -121,15 +113,15 @@ next_chain A B x y bytes middle rest one other = record {
 
 -- The same bytes seen as another thing: what is wrong stays wrong, where each other thing that begins so is one of the first.
 pub wrong_as : {X Z : Type 0} (A : Part X) (C : Part Z) (as_other : X → Z) (bytes : List ℕ) (place : ℕ) (reason : FrameReason) →
-    ((x : X) → A.Good x → C.Good (as_other x)) → ((x : X) → C.bytes (as_other x) ≡ A.bytes x) → ((x : X) → C.fields (as_other x) ≡ A.fields x) →
+    ((x : X) → A.Good x → C.Good (as_other x)) → ((x : X) → A.Good x → C.bytes (as_other x) ≡ A.bytes x) → ((x : X) → C.fields (as_other x) ≡ A.fields x) →
     ((z : Z) → C.Good z → take (suc place) (C.bytes z) ≡ take (suc place) bytes → (x : X) × A.Good x × (A.bytes x ≡ C.bytes z)) →
     IsWrong A bytes place reason → IsWrong C bytes place reason
 wrong_as {X} {Z} A C as_other bytes place reason good same_bytes same_fields back w = record {
   like = as_other w.like;
   good = good w.like w.good;
   within = w.within;
-  begun = ap (take place) (same_bytes w.like) ∙ w.begun;
-  more = subst (λ xs. place < length xs) (sym (same_bytes w.like)) w.more;
+  begun = ap (take place) (same_bytes w.like w.good) ∙ w.begun;
+  more = subst (λ xs. place < length xs) (sym (same_bytes w.like w.good)) w.more;
   short = w.short;
   field = λ l. ap (λ xs. get_or xs place Short) (same_fields w.like) ∙ w.field l;
   end = λ l z good_z e. let b = back z good_z e in w.end l b.0 b.1 (ap (take (suc place)) b.2 ∙ e);

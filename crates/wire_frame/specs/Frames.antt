@@ -1,5 +1,5 @@
 -- Frames and their bytes. The highest byte of a number stands first.
-use Rattle.std.specs.Prelude.{◌≡◌, ℕ, ◌+◌, ◌<◌, ◌≤◌, ◌^◌, List, [], ◌∷◌, ◌++◌, length, get_or, take, map, flat_map, replicate, All}
+use Rattle.std.specs.Prelude.{◌≡◌, ℕ, ◌<◌, ◌≤◌, ◌^◌, List, ◌∷◌, ◌++◌, length, map, flat_map, All}
 use Rattle.std.specs.Int.{w16, w32, to_be_bytes}
 use Rattle.propagation.specs.Stamps.{Rise, RisePairs}
 use Rattle.svc_value.specs.Layout.{layout, IsWithin}

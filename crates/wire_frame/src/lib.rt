@@ -2,20 +2,30 @@
 //! in any pieces.
 #![tactic(auto)]
 
+mod bodies;
 mod cutter;
 mod errors;
 mod frame;
+mod frame_laws;
 mod front;
+mod lists;
+mod numbers;
 mod place_clock;
+mod put;
+mod read;
 mod reason;
 mod shift;
 mod stream_laws;
 #[cfg(test)]
 mod tests;
+mod write;
 
 pub use cutter::Cutter;
-pub use errors::CutError;
+pub use errors::{CutError, FrameError, StreamError};
 pub use frame::{Announced, Cargo, Delta, Frame};
+pub use frame_laws::{frames_are_told, fronts_are_told};
 pub use place_clock::{PlaceClock, PlaceClocks};
+pub use read::read_frame;
 pub use reason::FrameReason;
 pub use stream_laws::{splits_always, splits_once, stream_comes_in_pieces};
+pub use write::write_frame;

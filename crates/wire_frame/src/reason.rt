@@ -1,4 +1,5 @@
 // Why bytes are no frame.
+use svc_value::ValueReason;
 
 /// The field in which bytes go wrong.
 #[derive(Clone, Copy, Debug, PartialEq, Eq)]
@@ -13,8 +14,14 @@ pub enum FrameReason {
     Count,
     /// The number of a service.
     Ids,
+    /// The value, in the field that `ValueReason` names.
+    Value(ValueReason),
     /// A clock.
     Clocks,
+    /// A frame ends before its length does.
+    Rest,
+    /// The length is above that of the longest frame.
+    Length,
     /// A place.
     Places,
 }

@@ -1,0 +1,123 @@
+// Lists of keys, of clocks and of places, read at a place of some bytes.
+ghost use Rattle.std.specs.Prelude.{◌≡◌, ◌≢◌, ◌+◌, ◌*◌, ◌<◌, ◌≤◌, ◌^◌, length, IfOk, IfErr};
+ghost use Rattle.wire_frame.specs.Bodies.{counted};
+ghost use Rattle.wire_frame.specs.Parts.{Stands, Fails};
+ghost use Rattle.wire_frame.specs.Runs.{item_part, run_part, key_items, clock_items, place_items};
+
+use crate::numbers::{read_byte, read_clock, read_key};
+use crate::{FrameError, FrameReason, PlaceClock, PlaceClocks};
+use std::alloc::Global;
+use svc_value::{Clocks, Ids, ServiceId};
+
+/// The most keys, clocks or places of a frame.
+const MOST: u8 = 64;
+
+/// The keys from `at` on behind their number, and where they end; `Bad` where there are none.
+pub(crate) fn read_keys(alloc: Global, bytes: &[u8], at: usize) -> Result<(Ids, usize), FrameError>
+    requires { at ≤ length bytes.now }
+    ensures keys { IfOk result (λ read. Stands (counted key_items 1) (length read.0, read.0) bytes.now at read.1) }
+    ensures bad { IfErr result (λ e. Fails (counted key_items 1) bytes.now at e) }
+{
+    let count = read_byte(bytes, at, FrameReason::Count, 1, MOST)?;
+    let keys = keys_of(alloc, bytes, at + 1, count)?;
+    Ok((keys, at + 1 + 2 * usize::from(count)))
+}
+
+/// The clocks from `at` on behind their number, and where they end; `Bad` where there are none.
+pub(crate) fn read_clocks(
+    alloc: Global,
+    bytes: &[u8],
+    at: usize,
+) -> Result<(Clocks, usize), FrameError>
+    requires { at ≤ length bytes.now }
+    ensures clocks { IfOk result (λ read. Stands (counted clock_items 1) (length read.0, read.0) bytes.now at read.1) }
+    ensures bad { IfErr result (λ e. Fails (counted clock_items 1) bytes.now at e) }
+{
+    let count = read_byte(bytes, at, FrameReason::Count, 1, MOST)?;
+    let clocks = clocks_of(alloc, bytes, at + 1, count)?;
+    Ok((clocks, at + 1 + 4 * usize::from(count)))
+}
+
+/// The places with their clocks from `at` on behind their number, and where they end; `Bad` where there are none.
+pub(crate) fn read_places(
+    alloc: Global,
+    bytes: &[u8],
+    at: usize,
+) -> Result<(PlaceClocks, usize), FrameError>
+    requires { at ≤ length bytes.now }
+    ensures places { IfOk result (λ read. Stands (counted place_items 0) (length read.0, read.0) bytes.now at read.1) }
+    ensures bad { IfErr result (λ e. Fails (counted place_items 0) bytes.now at e) }
+{
+    let count = read_byte(bytes, at, FrameReason::Count, 0, MOST)?;
+    let clocks = places_of(alloc, bytes, at + 1, count)?;
+    Ok((clocks, at + 1 + 5 * usize::from(count)))
+}
+
+// The `count` keys from `at` on, strictly rising.
+fn keys_of(alloc: Global, bytes: &[u8], at: usize, count: u8) -> Result<Ids, FrameError>
+    requires there { at ≤ length bytes.now }
+    requires most { count ≤ 64 }
+    ensures keys { IfOk result (λ keys. Stands (run_part key_items 0 count) keys bytes.now at (at + 2 * count)) }
+    ensures bad { IfErr result (λ e. Fails (run_part key_items 0 count) bytes.now at e) }
+{
+    let mut keys = Vec::with_capacity(alloc, usize::from(count))?;
+    let mut least = 0;
+    let mut to = at;
+    for i in 0..count {
+        let left = count - 1 - i;
+        let key = read_key(bytes, to, least, 65535 - u32::from(left))?;
+        keys.push_reserved(ServiceId(key));
+        least = u32::from(key) + 1;
+        to += 2;
+    }
+    Ok(Ids::from_vec(keys))
+}
+
+// The `count` clocks from `at` on.
+fn clocks_of(alloc: Global, bytes: &[u8], at: usize, count: u8) -> Result<Clocks, FrameError>
+    requires there { at ≤ length bytes.now }
+    requires most { count ≤ 64 }
+    ensures clocks { IfOk result (λ clocks. Stands (run_part clock_items 0 count) clocks bytes.now at (at + 4 * count)) }
+    ensures bad { IfErr result (λ e. Fails (run_part clock_items 0 count) bytes.now at e) }
+{
+    let mut clocks = Vec::with_capacity(alloc, usize::from(count))?;
+    let mut to = at;
+    for _ in 0..count {
+        let clock = read_clock(bytes, to, FrameReason::Clocks)?;
+        clocks.push_reserved(clock);
+        to += 4;
+    }
+    Ok(Clocks::from_vec(clocks))
+}
+
+// The `count` places with their clocks from `at` on, strictly rising.
+fn places_of(alloc: Global, bytes: &[u8], at: usize, count: u8) -> Result<PlaceClocks, FrameError>
+    requires there { at ≤ length bytes.now }
+    requires most { count ≤ 64 }
+    ensures places { IfOk result (λ clocks. Stands (run_part place_items 0 count) clocks bytes.now at (at + 5 * count)) }
+    ensures bad { IfErr result (λ e. Fails (run_part place_items 0 count) bytes.now at e) }
+{
+    let mut clocks = Vec::with_capacity(alloc, usize::from(count))?;
+    let mut least = 0;
+    let mut to = at;
+    for i in 0..count {
+        let left = count - 1 - i;
+        let named = read_place(bytes, to, least, left)?;
+        least = named.place + 1;
+        clocks.push_reserved(named);
+        to += 5;
+    }
+    Ok(PlaceClocks::from_vec(clocks))
+}
+
+// The place at `at`, from `least` on and with room for `left` places above it, and its clock.
+fn read_place(bytes: &[u8], at: usize, least: u8, left: u8) -> Result<PlaceClock, FrameError>
+    requires there { at ≤ length bytes.now }
+    requires room { least + left < 64 }
+    ensures named { IfOk result (λ named. Stands (item_part place_items least left) named bytes.now at (at + 5)) }
+    ensures bad { IfErr result (λ e. Fails (item_part place_items least left) bytes.now at e) }
+{
+    let place = read_byte(bytes, at, FrameReason::Places, least, 63 - left)?;
+    let clock = read_clock(bytes, at + 1, FrameReason::Clocks)?;
+    Ok(PlaceClock { place, clock })
+}
