@@ -1,5 +1,6 @@
 pub mod Document
 pub mod Grammar
 pub mod Legs
+pub mod Reading
 pub mod Refusals
 pub mod Rows

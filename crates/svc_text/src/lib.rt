@@ -2,9 +2,14 @@
 //! A document is accepted where no line is refused, each judged against the lines before it.
 #![tactic(auto)]
 
+mod formula;
+mod front;
+mod grammar;
+mod literal;
 mod plan;
 mod refusal;
 mod statement;
+mod stop;
 
 pub use plan::{
     Leg, Mode, Plan, PlanChange, PlanChanges, PlanLegs, ServiceLine, ServiceLines, StepEvent,
