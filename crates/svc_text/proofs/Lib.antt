@@ -1,1 +1,4 @@
 mod Examples
+pub mod GrammarLemmas
+pub mod LineLemmas
+pub mod SaidLemmas

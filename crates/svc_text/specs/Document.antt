@@ -20,11 +20,15 @@ abbrev pub lines_of : List ℕ → List (List ℕ)
 lines_of [] = []
 lines_of (b ∷ bytes) = if b == 10 then [] ∷ lines_of bytes else before_first_line b (lines_of bytes)
 
--- a line that says this is accepted after these statements, newest first
-pub record AcceptsLine (mode : Mode) (before : List Statement) (line : List ℕ) (statement : Statement) : Type 0 where
+-- a line of at most 4,096 bytes of UTF-8 that says this
+pub record IsLine (line : List ℕ) (statement : Statement) : Type 0 where
   pub short : length line ≤ 4096
   pub text : IsUtf8 line
   pub says : Says line statement
+
+-- a line that says this is accepted after these statements, newest first
+pub record AcceptsLine (mode : Mode) (before : List Statement) (line : List ℕ) (statement : Statement) : Type 0 where
+  pub reads : IsLine line statement
   pub fits : is_refused before statement ≡ false
 
 -- the lines say these statements, and each is accepted after those before it; both stand newest first

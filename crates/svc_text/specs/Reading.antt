@@ -1,5 +1,5 @@
--- How the code reads tokens: what stands at their front, and what follows it.
-use Rattle.std.specs.Prelude.{◌≡◌, ℕ, ◌^◌, nat_lt, nat_le, pos, neg_ℤ, if◌then◌else◌, List, [], ◌∷◌, Option, Some, None, Result, Ok, Err, option_map, option_and_then}
+-- How the code reads bytes and tokens: what stands at their front, and what follows it.
+use Rattle.std.specs.Prelude.{◌≡◌, ℕ, suc, ◌==◌, ◌^◌, nat_lt, nat_le, pos, neg_ℤ, if◌then◌else◌, List, [], ◌∷◌, Option, Some, None, Result, Ok, Err, option_map, option_and_then}
 use Rattle.std.specs.Str.{bytes_eq}
 use Rattle.svc_token.specs.declared.keyword.Keyword.TheVariants as keyword
 use Rattle.svc_token.specs.declared.token.Token.{Token}
@@ -14,6 +14,11 @@ use Rattle.svc_text.specs.declared.statement.Statement.TheVariants.{Input, Deriv
 use Rattle.svc_text.specs.declared.stop.Stop.{Stop}
 use Rattle.svc_text.specs.declared.stop.Stop.TheVariants.{Refused, OutOfMemory}
 use Rattle.svc_text.specs.Grammar.{sum_of}
+
+-- how many bytes stand before the first LF
+abbrev pub line_len : List ℕ → ℕ
+line_len [] = 0
+line_len (b ∷ bytes) = if b == 10 then 0 else suc (line_len bytes)
 
 -- `NAME : TYPE` at the front
 abbrev pub declared_at : List Token → Option (List ℕ × ValueType × List Token)

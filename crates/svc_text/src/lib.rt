@@ -5,6 +5,7 @@
 mod formula;
 mod front;
 mod grammar;
+mod line;
 mod literal;
 mod plan;
 mod refusal;

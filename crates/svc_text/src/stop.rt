@@ -1,4 +1,5 @@
 // Why the reading of a document ends at a line.
+use svc_token::CutError;
 use svc_value::OutOfMemory;
 
 /// Why the reading of a document ends at a line.
@@ -18,5 +19,20 @@ impl From<OutOfMemory> for Stop {
 
     fn from(_: OutOfMemory) -> Self {
         Stop::OutOfMemory
+    }
+}
+
+impl From<CutError> for Stop {
+    ghost use Rattle.svc_text.specs.declared.stop.Stop.TheVariants.{Refused, OutOfMemory};
+    ghost use Rattle.svc_token.specs.declared.cutting.CutError.TheVariants as cut;
+    ghost use Rattle.std.specs.Prelude.{◌≡◌};
+
+    ghost from_gives = { λ c e. (c ≡ cut.Bad → e ≡ Refused) × (e ≡ Refused → c ≡ cut.Bad) };
+
+    fn from(error: CutError) -> Self {
+        match error {
+            CutError::Bad => Stop::Refused,
+            CutError::OutOfMemory => Stop::OutOfMemory,
+        }
     }
 }

@@ -33,7 +33,8 @@ impl<T: Drop> From<AllocFailed<T>> for CutError {
     }
 }
 
-fn is_blank(b: u8) -> bool
+/// Whether a byte is a blank: a space, a tab or CR.
+pub fn is_blank(b: u8) -> bool
     ensures { result ≡ is_blank b }
 {
     b == b' ' || b == b'\t' || b == b'\r'

@@ -10,7 +10,7 @@ mod span;
 mod tests;
 mod token;
 
-pub use cutting::{CutError, cut, one_cut};
+pub use cutting::{CutError, cut, is_blank, one_cut};
 pub use keyword::{Keyword, spelled_keyword};
 pub use span::{LentName, Span};
 pub use token::{LONGEST_NAME, Token, is_name};
