@@ -1,4 +1,5 @@
 mod Examples
 pub mod GrammarLemmas
 pub mod LineLemmas
+pub mod NameLemmas
 pub mod SaidLemmas

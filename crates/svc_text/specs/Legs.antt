@@ -24,6 +24,8 @@ row_of line = declared_row line.name line.rank line.ty
 -- the services that the statements declare, in the order of declaration
 abbrev pub services : List Statement → List Row
 services [] = []
+services (Silence ∷ before) = services before
+services (Settle ∷ before) = services before
 services (statement ∷ before) = services before ++ map row_of (declares statement)
 
 -- the number of the service with this name, which is declared
@@ -57,6 +59,7 @@ said leg rows statement = record { services = leg.services ++ declares statement
 abbrev pub open_leg : List Statement → Leg
 open_leg [] = empty_leg
 open_leg (Settle ∷ before) = empty_leg
+open_leg (Silence ∷ before) = open_leg before
 open_leg (statement ∷ before) = said (open_leg before) (services before) statement
 
 -- the legs that a settle ends

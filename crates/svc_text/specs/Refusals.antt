@@ -33,13 +33,21 @@ abbrev pub has_other_rank : Statement → Bool
 has_other_rank (Derived name ty rank formula) = not (rank == 1)
 has_other_rank statement = false
 
--- a name that is not declared before; the name that is declared counts as not declared
+-- a name that is not declared
+abbrev pub is_unknown : List Row → List ℕ → Bool
+is_unknown rows name = not (is_declared rows name)
+
+-- a statement with such a name before it; the name that it declares counts as one
 abbrev pub names_unknown : List Row → Statement → Bool
-names_unknown rows statement = list_any (λ name. not (is_declared rows name)) (names_in statement)
+names_unknown rows statement = list_any (is_unknown rows) (names_in statement)
+
+-- a name whose rank is not below this one
+abbrev pub is_no_lower : List Row → ℕ → List ℕ → Bool
+is_no_lower rows rank name = nat_le rank (rank_of rows name)
 
 -- a declaration that names a dependency whose rank is not lower
 abbrev pub names_no_lower : List Row → Statement → Bool
-names_no_lower rows (Derived name ty rank formula) = list_any (λ given. nat_le rank (rank_of rows given)) (formula.names ++ formula.members)
+names_no_lower rows (Derived name ty rank formula) = list_any (is_no_lower rows rank) (formula.names ++ formula.members)
 names_no_lower rows statement = false
 
 -- a new value of a derived service

@@ -8,7 +8,9 @@ mod grammar;
 mod line;
 mod literal;
 mod plan;
+mod reader;
 mod refusal;
+mod scope;
 mod statement;
 mod stop;
 

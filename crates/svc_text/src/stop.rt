@@ -1,4 +1,6 @@
 // Why the reading of a document ends at a line.
+use std::alloc::AllocError;
+use svc_graph::DeclareError;
 use svc_token::CutError;
 use svc_value::OutOfMemory;
 
@@ -34,5 +36,32 @@ impl From<CutError> for Stop {
             CutError::Bad => Stop::Refused,
             CutError::OutOfMemory => Stop::OutOfMemory,
         }
+    }
+}
+
+impl From<DeclareError> for Stop {
+    ghost use Rattle.svc_text.specs.declared.stop.Stop.TheVariants.{Refused};
+    ghost use Rattle.svc_graph.specs.declared.errors.DeclareError.TheVariants as declare;
+    ghost use Rattle.std.specs.Prelude.{◌≡◌};
+
+    ghost from_gives = { λ d e. e ≡ Refused → d ≡ declare.OutOfMemory → ⊥ };
+
+    fn from(error: DeclareError) -> Self {
+        match error {
+            DeclareError::Taken => Stop::Refused,
+            DeclareError::Full => Stop::Refused,
+            DeclareError::OutOfMemory => Stop::OutOfMemory,
+        }
+    }
+}
+
+impl From<AllocError> for Stop {
+    ghost use Rattle.svc_text.specs.declared.stop.Stop.TheVariants.{OutOfMemory};
+    ghost use Rattle.std.specs.Prelude.{◌≡◌};
+
+    ghost from_gives = { λ _ e. e ≡ OutOfMemory };
+
+    fn from(_: AllocError) -> Self {
+        Stop::OutOfMemory
     }
 }
