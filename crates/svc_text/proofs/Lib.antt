@@ -3,3 +3,4 @@ pub mod GrammarLemmas
 pub mod LineLemmas
 pub mod NameLemmas
 pub mod SaidLemmas
+pub mod TakingLemmas

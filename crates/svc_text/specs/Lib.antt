@@ -6,3 +6,4 @@ pub mod Reading
 pub mod Refusals
 pub mod Rows
 pub mod State
+pub mod Taking

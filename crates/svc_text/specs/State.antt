@@ -1,5 +1,5 @@
 -- What the statements so far leave for the next one.
-use Rattle.std.specs.Prelude.{Bool, true, false, List, [], ◌∷◌, ◌++◌, map, length}
+use Rattle.std.specs.Prelude.{Bool, true, false, List, [], ◌∷◌, ◌++◌, map, length, if◌then◌else◌}
 use Rattle.svc_graph.specs.History.{Row}
 use Rattle.svc_text.specs.declared.plan.Leg.{Leg}
 use Rattle.svc_text.specs.declared.statement.Statement.{Statement}
@@ -33,6 +33,10 @@ next state statement = record {
 abbrev pub state_after : List Statement → State
 state_after [] = start
 state_after (statement ∷ before) = next (state_after before) statement
+
+-- the legs in this state, of which an open one is the last
+abbrev pub legs_in : State → List Leg
+legs_in state = if state.is_open then state.ended ++ state.open_leg ∷ [] else state.ended
 
 -- whether a statement is refused in this state
 abbrev pub refuses : State → Statement → Bool

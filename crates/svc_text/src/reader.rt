@@ -5,9 +5,11 @@ ghost use Rattle.svc_graph.specs.History.{Row, declared_row, place_of};
 ghost use Rattle.svc_text.specs.declared.statement.Statement.TheVariants as says;
 ghost use Rattle.svc_text.specs.Legs.{number_of, formula_of, empty_leg};
 ghost use Rattle.svc_text.specs.Refusals.{is_unknown, is_no_lower};
-ghost use Rattle.svc_text.specs.State.{start, next, refuses};
+ghost use Rattle.svc_text.specs.State.{start, next, refuses, legs_in};
+ghost use Rattle.svc_text.specs.Taking.{TakesLine, RefusesLine};
 ghost use Rattle.svc_text.specs.Reader.{state, has_room};
 
+use crate::line::read_line;
 use crate::plan::{Leg, PlanChange, PlanChanges, PlanLegs, ServiceLine, ServiceLines, StepLines};
 use crate::scope::Scope;
 use crate::statement::{NamedFormula, Statement};
@@ -15,7 +17,7 @@ use crate::stop::Stop;
 use std::alloc::Global;
 use std::mem;
 use svc_graph::{Change, Definition, Formula};
-use svc_token::LentName;
+use svc_token::{LentName, Token};
 use svc_value::{Ids, Name, OutOfMemory, Rank, ServiceId, Value, ValueType};
 
 /// The most changes of a leg.
@@ -203,5 +205,31 @@ impl Reader {
             Statement::Set(name, value) => self.set(&name, value),
             Statement::Settle => self.settle(),
         }
+    }
+
+    /// Takes the next line; `Refused` exactly where it is not accepted. Its tokens take the place of those in `tokens`.
+    pub(crate) fn take_line<'a>(
+        &mut self,
+        line: &'a [u8],
+        tokens: &mut Vec<Token<'a>>,
+    ) -> Result<(), Stop>
+        ensures taken { OnOk result (TakesLine (state self.old) line.now (state self.new)) }
+        ensures refused { IsErrOf result Stop.Refused → RefusesLine (state self.old) line.now }
+    {
+        match read_line(self.alloc, line, tokens) {
+            Ok(statement) => self.take(statement),
+            Err(stop) => Err(stop),
+        }
+    }
+
+    /// The legs of the lines so far; where anything was said after the last settle, the open leg is the last.
+    pub(crate) fn into_legs(self) -> Result<PlanLegs, OutOfMemory>
+        ensures { IfOk result (λ legs. legs ≡ legs_in (state self)) }
+    {
+        let mut legs = self.ended;
+        if self.is_open {
+            legs.push(self.open_leg)?;
+        }
+        Ok(legs)
     }
 }
