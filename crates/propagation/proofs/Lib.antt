@@ -38,11 +38,4 @@ pub mod RuleParts
 pub mod Lines
 pub mod TestedLines
 pub mod Notes
-pub mod SampleBook
-pub mod SampleSum
-pub mod SampleDiamond
-pub mod SampleFloor
-pub mod SampleEpochs
-pub mod SampleNewDefinition
-pub mod SampleNewKeys
-pub mod SampleVariants
+pub mod Samples

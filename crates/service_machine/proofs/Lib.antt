@@ -19,8 +19,6 @@ pub mod Accord
 pub mod Promises
 pub mod QuietTurns
 pub mod QuietLegs
-pub mod Sample
-pub mod SampleRows
 pub mod Schedules
 pub mod Acting
 pub mod TurnsEnd
@@ -36,3 +34,4 @@ pub mod Counting
 pub mod Refusing
 pub mod Nodes
 pub mod Alone
+pub mod Samples

@@ -20,7 +20,7 @@ pub fn steps_fit<V, D>()
     ensures { StepsFit V D }
 {}
 
-/// A node keeps this of itself without knowing the leg.
+/// A node keeps that its state and log fit its opening, without knowing the leg.
 pub fn nodes_fit<V, D>()
     ensures { NodesFit V D }
 {}
@@ -60,12 +60,12 @@ pub fn refusals_are_exact<V, D>()
     ensures { RefusalsAreExact V D }
 {}
 
-/// What is in flight is accepted, where each keeps the rules.
+/// In a legal family the oldest frame in flight is accepted.
 pub fn frames_are_taken<V, D>()
     ensures { FramesAreTaken V D }
 {}
 
-/// Every step keeps what that asks of a service.
+/// Every step keeps a service in accord with the others.
 pub fn accord_is_kept<V, D>()
     ensures { AccordIsKept V D }
 {}
@@ -90,12 +90,12 @@ pub fn schedules_are_legal<V, D>()
     ensures { SchedulesAreLegal V D }
 {}
 
-/// What is in flight between services that keep the rules is accepted.
+/// In a system that fits the oldest frame in flight is accepted.
 pub fn flights_are_accepted<V, D>()
     ensures { FlightsAreAccepted V D }
 {}
 
-/// And where none of them has anything to do, it is settled.
+/// A system in which nothing is in flight and no service has anything to do is settled.
 pub fn quiet_systems_are_settled<V, D>()
     ensures { QuietSystemsAreSettled V D }
 {}
@@ -105,7 +105,7 @@ pub fn systems_go_on<V, D>()
     ensures { SystemsGoOn V D }
 {}
 
-/// A turn that takes a value or computes leaves fewer of them, so turns end.
+/// Each turn that takes a value or computes leaves fewer of them, so turns end.
 pub fn turns_end<V, D>()
     ensures { TurnsEnd V D }
 {}
@@ -120,7 +120,7 @@ pub fn passes_join<V, D>()
     ensures { PassesJoin V D }
 {}
 
-/// The drain ends quiet.
+/// The drain ends quiet: two passes by rank, with every change, all that waits, and turns at each service.
 pub fn drain_ends_quiet<V, D>()
     ensures { DrainEndsQuiet V D }
 {}

@@ -6,9 +6,9 @@ use Rattle.propagation.specs.Logs.{Entry, Leg, carry, emissions, member}
 use Rattle.propagation.specs.Logs.Frame.{Subscribe, Unsubscribe, Sources, Changed}
 use Rattle.propagation.specs.Logs.Entry.{Did, Took, Computed, Sent}
 use Rattle.propagation.specs.Deciding.{keeps, all_rules, agreed, goes_forth, has_answered}
-use Rattle.propagation.proofs.SampleBook.{Linear}
-use Rattle.propagation.proofs.SampleEpochs as Epochs
-use Rattle.propagation.proofs.SampleFloor as Floor
+use Rattle.propagation.proofs.Samples.Book.{Linear}
+use Rattle.propagation.proofs.Samples.Epochs as Epochs
+use Rattle.propagation.proofs.Samples.Floor as Floor
 
 -- which of J2 to J7 the entry keeps
 abbrev kept : ℕ → Leg ℕ Linear → (ℕ → List (Entry ℕ)) → ℕ → Entry ℕ → List (Entry ℕ) → List Bool

@@ -2,12 +2,12 @@
 -- computation.
 use Rattle.std.proofs.Common.{◌≡◌, ℕ, List, [], ◌∷◌, reverse, refl}
 use Rattle.propagation.specs.Logs.{Entry}
-use Rattle.propagation.proofs.SampleBook.{Linear, of_list, book_of}
-use Rattle.propagation.proofs.SampleDiamond as Diamond
-use Rattle.propagation.proofs.SampleFloor as Floor
-use Rattle.propagation.proofs.SampleEpochs as Epochs
-use Rattle.propagation.proofs.SampleNewDefinition as NewDefinition
-use Rattle.propagation.proofs.SampleNewKeys as NewKeys
+use Rattle.propagation.proofs.Samples.Book.{Linear, of_list, book_of}
+use Rattle.propagation.proofs.Samples.Diamond as Diamond
+use Rattle.propagation.proofs.Samples.Floor as Floor
+use Rattle.propagation.proofs.Samples.Epochs as Epochs
+use Rattle.propagation.proofs.Samples.NewDefinition as NewDefinition
+use Rattle.propagation.proofs.Samples.NewKeys as NewKeys
 use Rattle.service_machine.specs.Systems.{System, Event, run, first_system, next_system}
 use Rattle.service_machine.specs.Systems.Event.{Do, Take, Turn}
 use Rattle.service_machine.specs.Draining.{passed}
