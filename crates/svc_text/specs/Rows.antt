@@ -7,6 +7,9 @@ use Rattle.svc_graph.specs.declared.definition.Change.{Change}
 use Rattle.svc_graph.specs.declared.definition.Change.TheVariants.{Birth, Set}
 use Rattle.svc_graph.specs.declared.definition.Definition.TheVariants.{Input, Derived}
 use Rattle.svc_graph.specs.declared.definition.Formula.{Formula}
+use Rattle.svc_graph.specs.Accepting.{IsChangeOf}
+use Rattle.svc_graph.specs.Refusals.{refusal_of}
+use Rattle.svc_token.specs.Word.{IsName}
 use Rattle.svc_graph.specs.History.{Row, changed, place_of, row_at}
 use Rattle.svc_value.specs.declared.value.Value.{Value}
 use Rattle.svc_value.specs.declared.value.Value.TheVariants.{Int}
@@ -38,6 +41,7 @@ rows_after_all rows (leg ∷ legs) = rows_after_all (rows_after rows leg) legs
 
 -- a name that is not declared, room for a service, and an input or a derived service of rank 1, of whole numbers
 pub record IsServiceAfter (rows : List Row) (line : ServiceLine) : Type 0 where
+  pub name : IsName line.name
   pub new : place_of rows line.name ≡ None
   pub room : length rows < 64
   pub rank : line.rank ≤ 1
@@ -65,9 +69,10 @@ abbrev pub IsWhole : Value → Type 0
 IsWhole (Int z) = Unit {0}
 IsWhole value = ⊥
 
--- a sum of two of so many names
+-- the sum of the two names that there are, or of the only one with itself
 pub data IsSum : Tree → ℕ → Type 0 where
-  is_sum : {i k count : ℕ} → i < count → k < count → IsSum (pair Add (given i) (given k)) count
+  two : IsSum (pair Add (given 0) (given 1)) 2
+  double : IsSum (pair Add (given 0) (given 0)) 1
 
 -- a sum of distinct inputs, without members
 pub record IsFormulaAfter (rows : List Row) (formula : Formula) : Type 0 where
@@ -88,10 +93,22 @@ abbrev pub AreChangesAfter : List Row → List PlanChange → Type 0
 AreChangesAfter rows [] = Unit {0}
 AreChangesAfter rows (change ∷ changes) = IsChangeAfter rows change.id change.change × AreChangesAfter (changed rows change.id change.change) changes
 
+-- a book accepts the change
+pub record IsAcceptedAfter (rows : List Row) (n : ℕ) (change : Change) : Type 0 where
+  pub form : IsChangeOf rows n change
+  pub passes : refusal_of rows n change ≡ None
+
+-- so it does each of these after those before it
+abbrev pub AreAcceptedAfter : List Row → List PlanChange → Type 0
+AreAcceptedAfter rows [] = Unit {0}
+AreAcceptedAfter rows (change ∷ changes) =
+    IsAcceptedAfter rows change.id change.change × AreAcceptedAfter (changed rows change.id change.change) changes
+
 -- the leg can be taken: its services can be declared and then its changes be made, which bring each service a definition
 pub record IsLegAfter (rows : List Row) (leg : Leg) : Type 0 where
   pub services : AreServicesAfter rows leg.services
   pub changes : AreChangesAfter (with_services rows leg.services) leg.changes
+  pub accepted : AreAcceptedAfter (with_services rows leg.services) leg.changes
   pub few : length leg.changes ≤ 1024
   pub born : All (λ row. row.history ≢ []) (drop (length rows) (rows_after rows leg))
 
