@@ -1,7 +1,7 @@
 -- A change adds to the history of one service, and leaves all else as it was.
 use Rattle.std.proofs.Common.{◌≡◌, ◌≢◌, ℕ, zero, suc, ◌-◌, ◌<◌, ◌≤◌, List, [], ◌∷◌, length, length-append, slice_get, Option, Some, None, refl, sym, ap, subst, inl, inr, arith}
 use Rattle.std.proofs.lemmas.Bool.{cases_eq}
-use Rattle.std.proofs.lemmas.List.{get_or-map}
+use Rattle.std.proofs.Math.ListN.{get_or-map}
 use Rattle.std.proofs.lemmas.Option.{slice_get-get_or}
 use Rattle.propagation.proofs.Lists.{Has-append_cases}
 use Rattle.propagation.specs.Words.{Has}
@@ -69,8 +69,8 @@ present-None (d ∷ ds) h =
     absurd (cc)
 
 -- the kind of a row is that of its place
-pub kind_at-roster : (rows : List Row) (n : ℕ) → n < length rows → kind_at (roster_of rows) n ≡ kind_of (row_at rows n)
-kind_at-roster rows n within = get_or-map kind_of rows n (declared_row [] 0 Int) (record { rank = 0; ty = Int }) within
+pub kind_at-roster : (rows : List Row) (n : ℕ) → kind_at (roster_of rows) n ≡ kind_of (row_at rows n)
+kind_at-roster rows n = get_or-map kind_of rows n (declared_row [] 0 Int)
 
 -- the row of a service after an accepted change of it
 grown-row : (kinds : List Kind) (n : ℕ) (row : Row) (change : Change) → IsRow kinds n row → HasForm (kind_at kinds n).rank change → length row.history < 1024000 →
@@ -99,6 +99,6 @@ IsBook-changed rows n change h can none =
         elim (cases_eq m n) [
           | inl same ↦
               subst (λ k. IsRow (roster_of rows) k (row_at (changed rows n change) k)) (sym same) (subst (IsRow (roster_of rows) n) (sym (row_at-changed rows n change can.declared))
-              (grown-row (roster_of rows) n (row_at rows n) change (h.each n can.declared) (subst (λ kind. HasForm kind.rank change) (sym (kind_at-roster rows n can.declared)) can.form) can.clock none))
+              (grown-row (roster_of rows) n (row_at rows n) change (h.each n can.declared) (subst (λ kind. HasForm kind.rank change) (sym (kind_at-roster rows n)) can.form) can.clock none))
           | inr other ↦ subst (IsRow (roster_of rows) m) (sym (row_at-changed_other rows n m change other)) (h.each m within)
         ]

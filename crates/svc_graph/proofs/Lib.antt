@@ -5,5 +5,6 @@ pub mod Changed
 pub mod Keeping
 pub mod Lists
 pub mod Naming
+pub mod Ordered
 pub mod Rows
 pub mod Untyped

@@ -1,8 +1,9 @@
 -- Small facts on lists and tests.
 use Rattle.propagation.specs.Words.{is_among}
-use Rattle.std.specs.List.{list_any}
+use Rattle.std.proofs.lemmas.List.FromFn.{map-range_with_len_more}
+use Rattle.std.specs.List.{list_any, range_with_len}
 use Rattle.std.specs.Prelude.{Result, Ok, Err, OnErr}
-use Rattle.std.proofs.Common.{◌≡◌, ℕ, zero, suc, ◌<◌, Bool, true, false, ◌&&◌, ◌||◌, ◌==◌, if◌then◌else◌, List, [], ◌∷◌, ◌++◌, length, slice_get, Some, refl, arith}
+use Rattle.std.proofs.Common.{◌≡◌, ℕ, zero, suc, ◌<◌, Bool, true, false, ◌&&◌, ◌||◌, ◌==◌, if◌then◌else◌, List, [], ◌∷◌, ◌++◌, length, slice_get, Some, refl, arith, ◌+◌, map, zero-add, sym, ap, ◌∙◌}
 
 -- both tests hold where their conjunction does
 pub and_left : (a b : Bool) → (a && b) ≡ true → a ≡ true
@@ -49,3 +50,12 @@ is_among_append (p ∷ ps) qs q = by (p == q) (is_among_append ps qs q)
     by : (b : Bool) → is_among (ps ++ qs) q ≡ (is_among ps q || is_among qs q) → (if b then true else is_among (ps ++ qs) q) ≡ ((if b then true else is_among ps q) || is_among qs q)
     by true h = refl
     by false h = h
+
+-- one number more
+pub range_with_len-more : (n : ℕ) → range_with_len 0 (n + 1) ≡ range_with_len 0 n ++ n ∷ []
+range_with_len-more n =
+    sym (map-same (range_with_len 0 (n + 1))) ∙ map-range_with_len_more (λ k. k) 0 n n (zero-add n) ∙ (λ i. map-same (range_with_len 0 n) i ++ n ∷ [])
+  where
+    map-same : (xs : List ℕ) → map (λ k. k) xs ≡ xs
+    map-same [] = refl
+    map-same (x ∷ xs) = ap (λ ys. x ∷ ys) (map-same xs)

@@ -2,6 +2,7 @@
 use Rattle.std.proofs.Common.{◌≡◌, ℕ, suc, ◌<◌, List, [], ◌∷◌, ◌++◌, map, length, length-append, get_or, position, refl, ap, sym, ◌∙◌, arith, zero}
 use Rattle.std.specs.Str.{bytes_eq}
 use Rattle.std.proofs.Math.ListN.{get_or-map, set}
+use Rattle.std.proofs.lemmas.List as lists
 use Rattle.std.proofs.lemmas.List.{get_or_default, length-set}
 use Rattle.svc_graph.specs.Book.{IsBook}
 use Rattle.svc_graph.specs.Columns.{rows_of, AreColumns}
@@ -9,7 +10,7 @@ use Rattle.svc_graph.specs.declared.definition.Change.{Change}
 use Rattle.svc_graph.specs.declared.definition.Definition.{Definition}
 use Rattle.svc_graph.specs.declared.kind.Kind.{Kind}
 use Rattle.svc_value.specs.declared.value.ValueType.TheVariants.{Int}
-use Rattle.svc_graph.specs.History.{Row, brought, changed, present, row_at, names_in, place_of, roster_of, declared_row}
+use Rattle.svc_graph.specs.History.{Row, kind_of, brought, changed, present, row_at, names_in, place_of, roster_of, declared_row}
 
 -- the row of a service that is not declared
 abbrev nobody : Row
@@ -102,6 +103,11 @@ module _ {names : List (List ℕ)} {kinds : List Kind} {histories : List (List D
 
   pub name-read : (n : ℕ) (name : List ℕ) → n < length names → name ≡ get_or names n name → name ≡ (row_at (rows_of names kinds histories) n).name
   name-read n name at read = read ∙ get_or_default names n name [] at ∙ sym (name_at-book n)
+
+  pub kind-read : (n : ℕ) (kind : Kind) → n < length names → kind ≡ get_or kinds n kind → kind ≡ kind_of (row_at (rows_of names kinds histories) n)
+  kind-read n kind at read =
+      read ∙ ap (λ all. get_or all n kind) (sym roster_of-book) ∙
+      lists.get_or-map kind_of (rows_of names kinds histories) n nobody kind (rw length-book at)
 
 -- a row more in each column
 pub AreColumns-push : {names : List (List ℕ)} {kinds : List Kind} {histories : List (List Definition)} → AreColumns names kinds histories → (name : List ℕ) (kind : Kind) →

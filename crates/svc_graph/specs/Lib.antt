@@ -4,5 +4,6 @@ pub mod Central
 pub mod Columns
 pub mod History
 pub mod Lent
+pub mod Order
 pub mod Refusals
 pub mod Versions

@@ -3,6 +3,8 @@ ghost use Rattle.std.specs.Prelude.{◌≡◌, ◌≤◌, ◌<◌, ◌++◌, ◌
 ghost use Rattle.std.specs.Str.{bytes_eq};
 ghost use Rattle.svc_graph.specs.Columns.{bytes_of};
 
+mod order;
+
 use crate::checks::check;
 use crate::{Change, ChangeError, DeclareError, History, Kind, Roster};
 use indexmap::IndexSet;
@@ -72,7 +74,7 @@ impl Book {
     ghost use Rattle.svc_graph.specs.Accepting.{IsChangeOf};
     ghost use Rattle.svc_graph.specs.Book.{IsBook};
     ghost use Rattle.svc_graph.specs.Refusals.{refusal_of};
-    ghost use Rattle.svc_graph.specs.History.{changed, declared_row, history_of, place_of, roster_of, row_at};
+    ghost use Rattle.svc_graph.specs.History.{changed, declared_row, history_of, kind_of, place_of, roster_of, row_at};
 
     /// The book without services, which takes its memory from `alloc`.
     pub fn new(alloc: Global) -> Book
@@ -207,6 +209,14 @@ impl Book {
         ensures { result ≡ length (history_of self.now id) }
     {
         Clock(self.history(id).len() as u32)
+    }
+
+    /// The rank and the type of the service `id`.
+    pub fn kind(&self, id: ServiceId) -> Kind
+        requires { id < length self.now }
+        ensures { result ≡ kind_of (row_at self.now id) }
+    {
+        self.kinds[place(id)]
     }
 
     /// The ranks and the types of all services, in the order of declaration.

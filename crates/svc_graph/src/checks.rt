@@ -18,7 +18,7 @@ use svc_value::{Rank, ServiceId, ValueType};
 pub const MOST_DEPENDENCIES: usize = 16;
 
 // The rank and the type of a service; those of an input of whole numbers if it is not declared.
-fn kind_of(kinds: &[Kind], id: ServiceId) -> Kind
+pub(crate) fn kind_of(kinds: &[Kind], id: ServiceId) -> Kind
     ensures { result ≡ kind_at kinds.now id }
 {
     match kinds.get(usize::from(id.0)) {
