@@ -6,5 +6,6 @@ pub mod Keeping
 pub mod Lists
 pub mod Naming
 pub mod Ordered
+pub mod Rewinding
 pub mod Rows
 pub mod Untyped

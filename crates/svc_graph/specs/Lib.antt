@@ -6,4 +6,5 @@ pub mod History
 pub mod Lent
 pub mod Order
 pub mod Refusals
+pub mod Rewound
 pub mod Versions

@@ -1,5 +1,5 @@
 // The accepted definitions of one service.
-ghost use Rattle.std.specs.Prelude.{◌≡◌, ◌++◌, ◌∷◌, [], ◌==◌, not, true, filter, length, option_map, None, IfOk, OnOk, OnErr};
+ghost use Rattle.std.specs.Prelude.{◌≡◌, ◌++◌, ◌∷◌, [], ◌==◌, not, true, filter, length, option_map, None, IfOk, OnOk, OnErr, take};
 ghost use Rattle.svc_graph.specs.Lent.{definition_lent};
 ghost use Rattle.svc_graph.specs.Versions.{definition_of, is_within, with_member, without_member};
 
@@ -145,6 +145,13 @@ impl History {
         ensures { option_map definition_lent result ≡ present self.now }
     {
         self.at(self.versions.len())
+    }
+
+    /// Keeps the first `len` definitions.
+    pub(crate) fn truncate(&mut self, len: usize)
+        ensures { self.new ≡ take len self.old }
+    {
+        self.versions.truncate(len);
     }
 
     /// Appends the definition that `change` brings. After `OutOfMemory` the history is as it was, and the change is dropped.
