@@ -1,9 +1,13 @@
+pub mod Agreeing
 pub mod Always
 pub mod Counting
 pub mod Cutting
 pub mod Digits
+pub mod Framing
 pub mod Fronts
 pub mod Items
+pub mod Longest
+pub mod Messages
 pub mod Parts
 pub mod Putting
 pub mod Readable

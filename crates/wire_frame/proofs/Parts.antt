@@ -15,7 +15,7 @@ abbrev pub EachHasField : {X : Type 0} → Part X → Type 0
 EachHasField {X} part = (x : X) → length (part.fields x) ≡ length (part.bytes x)
 
 -- so many bytes more than the first of two lists
-taken_past : (xs ys : List ℕ) (k : ℕ) → take (length xs + k) (xs ++ ys) ≡ xs ++ take k ys
+pub taken_past : (xs ys : List ℕ) (k : ℕ) → take (length xs + k) (xs ++ ys) ≡ xs ++ take k ys
 taken_past [] ys k = let e : 0 + k ≡ k = omega arith in ap (λ n. take n ys) e
 taken_past (x ∷ xs) ys k =
     let e : suc (length xs) + k ≡ suc (length xs + k) = omega arith in

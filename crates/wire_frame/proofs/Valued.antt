@@ -24,7 +24,7 @@ pub value-fields : EachHasField value_part
 value-fields x = length-map (enumerate_from 0 (layout x)) (λ n. field.Value (reason_at (layout x) n.0)) ∙ length-enumerate_from 0 (layout x)
 
 -- the field of a byte of a value
-value_field : (v : Value) (place : ℕ) → place < length (layout v) → get_or (value_fields v) place field.Short ≡ field.Value (reason_at (layout v) place)
+pub value_field : (v : Value) (place : ℕ) → place < length (layout v) → get_or (value_fields v) place field.Short ≡ field.Value (reason_at (layout v) place)
 value_field v place l =
     get_or-map (λ (n : ℕ × ℕ). field.Value (reason_at (layout v) n.0)) (enumerate_from 0 (layout v)) place (0, 0) field.Short (omega (arith, l, length-enumerate_from 0 (layout v)))
     ∙ ap (λ (n : ℕ × ℕ). field.Value (reason_at (layout v) n.0)) (get_or-enumerate_from 0 (layout v) place (0, 0) l)
@@ -34,7 +34,7 @@ value_field v place l =
 not_end : (bytes : List ℕ) (place : ℕ) → place < length bytes → (place == length bytes) ≡ false
 not_end bytes place l = grind (arith, nat_tests)
 
-same_reason : (xs ys : List ℕ) (place : ℕ) → place < length xs → place < length ys → take place xs ≡ take place ys → reason_at xs place ≡ reason_at ys place
+pub same_reason : (xs ys : List ℕ) (place : ℕ) → place < length xs → place < length ys → take place xs ≡ take place ys → reason_at xs place ≡ reason_at ys place
 same_reason [] ys place l m e = absurd (omega arith)
 same_reason (x ∷ xs) [] place l m e = absurd (omega arith)
 same_reason (x ∷ xs) (y ∷ ys) zero l m e =

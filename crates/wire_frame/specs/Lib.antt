@@ -2,6 +2,8 @@ pub mod Bodies
 pub mod Cut
 pub mod Fields
 pub mod Frames
+pub mod Framing
+pub mod Message
 pub mod Parts
 pub mod Runs
 pub mod Stream

@@ -117,6 +117,13 @@ impl Cutter {
         }
     }
 
+    /// The offset of the first byte that is held.
+    pub(crate) fn offset(&self) -> u64
+        ensures { result ≡ self.now.offset }
+    {
+        self.at
+    }
+
     /// Goes past an item of `size` bytes and its length.
     pub(crate) fn pass(&mut self, size: usize)
         requires fits { size ≤ 585 }

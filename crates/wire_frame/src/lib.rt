@@ -7,6 +7,7 @@ mod cutter;
 mod errors;
 mod frame;
 mod frame_laws;
+mod framer;
 mod front;
 mod lists;
 mod numbers;
@@ -23,7 +24,10 @@ mod write;
 pub use cutter::Cutter;
 pub use errors::{CutError, FrameError, StreamError};
 pub use frame::{Announced, Cargo, Delta, Frame};
-pub use frame_laws::{frames_are_told, fronts_are_told};
+pub use frame_laws::{
+    frames_are_short, frames_are_told, fronts_are_told, messages_are_told, wrong_frames_stay,
+};
+pub use framer::Framer;
 pub use place_clock::{PlaceClock, PlaceClocks};
 pub use read::read_frame;
 pub use reason::FrameReason;

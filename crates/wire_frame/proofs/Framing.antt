@@ -1,0 +1,84 @@
+-- The next frame of a stream is one, or wrong in one way, however the stream goes on.
+use Rattle.std.proofs.Common.{◌≡◌, ◌∙◌, sym, ap, refl, subst, ℕ, ◌+◌, ◌≤◌, inl, inr, List, ◌++◌, length, take, drop, arith, append_assoc}
+use Rattle.std.proofs.lemmas.List.{length-append, take_all, take_at, drop_at}
+use Rattle.wire_frame.specs.declared.frame.Frame.{Frame}
+use Rattle.wire_frame.specs.declared.reason.FrameReason.{FrameReason}
+use Rattle.wire_frame.specs.Frames.{frame_bytes, FrameOf}
+use Rattle.wire_frame.specs.Framing.{Unread, IsAnswered, IsNoFrame, IsWrongNext}
+use Rattle.wire_frame.specs.Stream.{framed, size_at, IsFront, IsPartial}
+use Rattle.wire_frame.specs.Taking.{IsAtFront}
+use Rattle.wire_frame.proofs.Agreeing.{bad_once}
+use Rattle.wire_frame.proofs.Cutting.{too_long_more}
+use Rattle.wire_frame.proofs.Items.{size_framed}
+use Rattle.wire_frame.proofs.Longest.{frame_length}
+use Rattle.wire_frame.proofs.Told.{same_front}
+
+-- the length in front is that of the item
+front_size : (held item : List ℕ) → IsFront held item → size_at held ≡ length item
+front_size held item f = ap size_at f.whole ∙ size_framed item (drop (length item + 2) held)
+
+front_long : (held item : List ℕ) → IsFront held item → length item + 2 ≤ length held
+front_long held item f = omega (arith, ap length f.whole, length-append item (drop (length item + 2) held))
+
+-- one item stands in front
+one_front : (held a b : List ℕ) → IsFront held a → IsFront held b → a ≡ b
+one_front held a b p q =
+    let size : length a ≡ length b = sym (front_size held a p) ∙ front_size held b q in
+    sym (take_at a (drop (length a + 2) held) (length a) refl) ∙ ap (λ bs. take (length a) (drop 2 bs)) (sym p.whole ∙ q.whole) ∙ take_at b (drop (length b + 2) held) (length a) (sym size)
+
+no_frame_once : (item : List ℕ) (m n : ℕ) (why other : FrameReason) → IsNoFrame item m why → IsNoFrame item n other → (m ≡ n) × (why ≡ other)
+no_frame_once item m n why other (inl p) (inl q) = bad_once item m n why other p q
+no_frame_once item m n why other (inl p) (inr q) = absurd (p.none n (q.frame, q.front.frame_of))
+no_frame_once item m n why other (inr p) (inl q) = absurd (q.none m (p.frame, p.front.frame_of))
+no_frame_once item m n why other (inr p) (inr q) = ((same_front item p.frame q.frame m n p.front q.front).1, p.rest ∙ sym q.rest)
+
+pub wrong_once : (held : List ℕ) (m n : ℕ) (why other : FrameReason) → IsWrongNext held m why → IsWrongNext held n other → (m ≡ n) × (why ≡ other)
+wrong_once held m n why other (inl p) (inl q) = (p.start ∙ sym q.start, p.length_is ∙ sym q.length_is)
+wrong_once held m n why other (inl p) (inr q) = absurd (omega (arith, p.too_long.1, front_size held q.item q.front, q.front.fits))
+wrong_once held m n why other (inr p) (inl q) = absurd (omega (arith, q.too_long.1, front_size held p.item p.front, p.front.fits))
+wrong_once held m n why other (inr p) (inr q) =
+    let same : q.item ≡ p.item = one_front held q.item p.item q.front p.front in
+    no_frame_once p.item m n why other p.no_frame (subst (λ (item : List ℕ). IsNoFrame item n other) same q.no_frame)
+
+-- an item in front stays there
+front_more : (held more item : List ℕ) → IsFront held item → IsFront (held ++ more) item
+front_more held more item f =
+    let rest = drop (length item + 2) held in
+    let spelled : held ++ more ≡ framed item ++ (rest ++ more) = ap (λ bs. bs ++ more) f.whole ∙ append_assoc (framed item) rest more in
+    record {
+      whole = spelled ∙ ap (λ bs. framed item ++ bs)
+          (sym (drop_at (framed item) (rest ++ more) (length item + 2) (omega arith)) ∙ ap (drop (length item + 2)) (sym spelled));
+      fits = f.fits;
+    }
+
+pub wrong_stays : (held more : List ℕ) (place : ℕ) (why : FrameReason) → IsWrongNext held place why → IsWrongNext (held ++ more) place why
+wrong_stays held more place why (inl p) = inl (record { too_long = too_long_more held more p.too_long; start = p.start; length_is = p.length_is })
+wrong_stays held more place why (inr p) = inr (record { item = p.item; front = front_more held more p.item p.front; no_frame = p.no_frame })
+
+pub wrong_is_whole : (held : List ℕ) (place : ℕ) (why : FrameReason) → IsWrongNext held place why → IsPartial held → ⊥
+wrong_is_whole held place why (inl p) (inl short) = omega (arith, p.too_long.0, short)
+wrong_is_whole held place why (inl p) (inr part) = omega (arith, p.too_long.1, part.0)
+wrong_is_whole held place why (inr p) (inl short) = omega (arith, front_long held p.item p.front, short)
+wrong_is_whole held place why (inr p) (inr part) = omega (arith, front_long held p.item p.front, front_size held p.item p.front, part.1)
+
+pub wrong_is_none : (old new : Unread) (frame : Frame) (place : ℕ) (why : FrameReason) → IsAnswered old new frame → IsWrongNext old.held place why → ⊥
+wrong_is_none old new frame place why a w =
+    let bytes = frame_bytes frame in
+    let rest : drop (length bytes + 2) old.held ≡ new.held = ap (drop (length bytes + 2)) a.whole ∙ drop_at (framed bytes) new.held (length bytes + 2) (omega arith) in
+    let front : IsFront old.held bytes = record {
+      whole = a.whole ∙ ap (λ bs. framed bytes ++ bs) (sym rest);
+      fits = frame_length frame (a.frame_of.within, a.frame_of.fits);
+    } in by w front
+  where
+    whole : (item : List ℕ) → frame_bytes frame ≡ item → FrameOf frame (take (length item) item)
+    whole item e = record { within = a.frame_of.within; fits = a.frame_of.fits; is = take_all (length item) item (omega arith) ∙ sym e }
+
+    whole_item : (item : List ℕ) → IsNoFrame item place why → frame_bytes frame ≡ item → ⊥
+    whole_item item (inl bad) e = bad.none (length item) (frame, whole item e)
+    whole_item item (inr longer) e =
+        let all : IsAtFront item frame (length item) = record { fits = omega arith; frame_of = whole item e } in
+        omega (arith, longer.longer, (same_front item longer.frame frame place (length item) longer.front all).1)
+
+    by : IsWrongNext old.held place why → IsFront old.held (frame_bytes frame) → ⊥
+    by (inl p) front = omega (arith, p.too_long.1, front_size old.held (frame_bytes frame) front, front.fits)
+    by (inr p) front = whole_item p.item p.no_frame (one_front old.held (frame_bytes frame) p.item front p.front)
