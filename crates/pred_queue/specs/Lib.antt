@@ -1,0 +1,4 @@
+pub mod Told
+pub mod Epochs
+pub mod Refusals
+pub mod Capped

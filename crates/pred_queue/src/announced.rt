@@ -1,0 +1,168 @@
+// The keys that a sender announced last, and the clocks that it carried for them.
+ghost use Rattle.std.specs.Prelude.{◌≡◌, ◌<◌, All, None, Some, length, replicate, unwrap_or, OnOk, OnErr, IfOk, IfErr, IsSome, IsTrue};
+ghost use Rattle.propagation.specs.Stamps.{Rise, RisePairs};
+ghost use Rattle.service_machine.specs.Refusing.{refuse_put, bad_place};
+ghost use Rattle.wire_frame.specs.Frames.{pairs};
+ghost use Rattle.pred_queue.specs.Told.{rewritten, items_in};
+
+use crate::SlotError;
+use stamp_clock::{KeySet, Stamps};
+use std::alloc::Global;
+use std::marker::Model;
+use svc_value::{Clock, Clocks, OutOfMemory, ServiceId};
+use wire_frame::PlaceClock;
+
+/// The epoch and the keys announced last, with the clocks that were carried for them last, or none.
+#[derive(Debug, Drop)]
+pub(crate) struct Announced {
+    epoch: Clock,
+    keys: KeySet,
+    clocks: Option<Vec<Clock>>,
+}
+
+impl Model for Announced {
+    ghost use Rattle.std.specs.Prelude.{ℕ, List, ◌≡◌, Some};
+    ghost use Rattle.std.specs.List.{zip};
+    ghost use Rattle.std.specs.Option.{option_map};
+    ghost use Rattle.stamp_clock.specs.Places.{AreKeys};
+    ghost use Rattle.stamp_clock.specs.Beside.{AreBeside};
+    ghost use Rattle.pred_queue.specs.Told.{Told, items_in};
+
+    ghost Value = { Told };
+
+    ghost view = { λ a. record { epoch = a.epoch; keys = a.keys; carried = option_map (zip a.keys) (items_in a.clocks) } };
+
+    ghost invariant = { λ a. AreKeys a.keys × ((clocks : List ℕ) → items_in a.clocks ≡ Some clocks → AreBeside a.keys clocks) };
+}
+
+impl Announced {
+    ghost use Rattle.pred_queue.specs.Told.{told_more};
+    ghost use Rattle.pred_queue.specs.Refusals.{refusal_in, refusal_of};
+
+    // Keys that rise strictly and are below 64, with nothing carried for them.
+    pub(crate) fn new(epoch: Clock, keys: &[ServiceId]) -> Announced
+        requires rise { Rise 0 keys.now }
+        requires below { All (λ key. key < 64) keys.now }
+        ensures { result ≡ record { epoch = epoch; keys = keys.now; carried = None } }
+    {
+        Announced {
+            epoch,
+            keys: KeySet::of(keys),
+            clocks: None,
+        }
+    }
+
+    // The epoch.
+    pub(crate) fn epoch(&self) -> Clock
+        ensures { result ≡ self.now.epoch }
+    {
+        self.epoch
+    }
+
+    // Why the clocks of a value under an epoch are refused, if they are.
+    pub(crate) fn check(&self, epoch: Clock, named: &[PlaceClock]) -> Result<(), SlotError>
+        ensures exactly { refusal_in result ≡ refuse_put (Some (self.now.epoch, self.now.keys)) self.now.carried epoch (pairs named.now) }
+        ensures memory { IfErr result (λ error. IsSome (refusal_of error)) }
+    {
+        let announced = self.keys.len();
+        let carried = named.len();
+        if self.epoch != epoch {
+            return Err(SlotError::NoSources);
+        }
+        if let Some(place) = first_outside(announced, named) {
+            return Err(SlotError::WrongPlace { announced, place });
+        }
+        if self.clocks.is_none() && carried != announced {
+            return Err(SlotError::NotWhole { announced, carried });
+        }
+        Ok(())
+    }
+
+    // The stamps of a value that names these clocks.
+    pub(crate) fn stamps(&self, alloc: Global, named: &[PlaceClock]) -> Result<Stamps, OutOfMemory>
+        requires accepted { refuse_put (Some (self.now.epoch, self.now.keys)) self.now.carried self.now.epoch (pairs named.now) ≡ None }
+        requires rise { RisePairs 0 (pairs named.now) }
+        ensures { IfOk result (λ stamps. stamps ≡ told_more (pairs named.now) self.now) }
+    {
+        let last = copied(&self.clocks)?;
+        let clocks = or_zeros(alloc, last, self.keys.len())?;
+        let clocks = written(clocks, named);
+        Ok(Stamps::over(self.keys, Clocks::from_vec(clocks)))
+    }
+
+    // The clocks are those last carried.
+    pub(crate) fn carry(&mut self, alloc: Global, named: &[PlaceClock]) -> Result<(), OutOfMemory>
+        requires accepted { refuse_put (Some (self.old.epoch, self.old.keys)) self.old.carried self.old.epoch (pairs named.now) ≡ None }
+        requires rise { RisePairs 0 (pairs named.now) }
+        ensures ok { OnOk result (self.new ≡ record self.old { carried = Some (told_more (pairs named.now) self.old) }) }
+        ensures err { OnErr result (self.new ≡ self.old) }
+    {
+        let last = self.clocks.take();
+        let clocks = or_zeros(alloc, last, self.keys.len())?;
+        self.clocks = Some(written(clocks, named));
+        Ok(())
+    }
+}
+
+impl Announced {
+    // An equal one.
+    pub(crate) fn copy(&self) -> Result<Announced, OutOfMemory>
+        ensures { IfOk result (λ announced. announced ≡ self.now) }
+    {
+        let clocks = copied(&self.clocks)?;
+        Ok(Announced {
+            epoch: self.epoch,
+            keys: self.keys,
+            clocks,
+        })
+    }
+}
+
+// The first place that is none of so many.
+fn first_outside(count: usize, named: &[PlaceClock]) -> Option<usize>
+    ensures { result ≡ bad_place count (pairs named.now) }
+{
+    for one in named {
+        let place = one.place as usize;
+        if place >= count {
+            return Some(place);
+        }
+    }
+    None
+}
+
+// A copy of the clocks, where there are some.
+fn copied(clocks: &Option<Vec<Clock>>) -> Result<Option<Vec<Clock>>, OutOfMemory>
+    ensures { IfOk result (λ copy. items_in copy ≡ items_in clocks.now) }
+{
+    match clocks {
+        Some(clocks) => Ok(Some(clocks.clone()?)),
+        None => Ok(None),
+    }
+}
+
+// The clocks, or as many zeros where there are none.
+fn or_zeros(
+    alloc: Global,
+    clocks: Option<Vec<Clock>>,
+    count: usize,
+) -> Result<Vec<Clock>, OutOfMemory>
+    ensures made { IfOk result (λ made. made.items ≡ unwrap_or (items_in clocks) (replicate count 0)) }
+    ensures err { OnErr result (items_in clocks ≡ None) }
+{
+    match clocks {
+        Some(clocks) => Ok(clocks),
+        None => Ok(vec![in alloc; Clock(0); count]?),
+    }
+}
+
+// The clocks with those at the named places in place of the ones before.
+fn written(mut clocks: Vec<Clock>, named: &[PlaceClock]) -> Vec<Clock>
+    requires { All (λ named. named.place < length clocks.items) named.now }
+    ensures { result.items ≡ rewritten (pairs named.now) clocks.items }
+{
+    for one in named {
+        clocks[one.place as usize] = one.clock;
+    }
+    clocks
+}
