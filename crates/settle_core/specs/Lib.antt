@@ -1,0 +1,7 @@
+pub mod Sent
+pub mod Turn
+pub mod Node
+pub mod Steps
+pub mod Settling
+pub mod Network
+pub mod Opening
