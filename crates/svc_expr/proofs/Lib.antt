@@ -2,3 +2,10 @@ pub mod NumberLemmas
 pub mod MemberLemmas
 pub mod MeaningLemmas
 pub mod TypeLemmas
+pub mod Steps
+pub mod Sizes
+pub mod Sound
+pub mod Complete
+pub mod NameLemmas
+pub mod Laws
+pub mod QuotedLemmas

@@ -1,5 +1,9 @@
 pub mod Tree
 pub mod Meaning
+pub mod Quoted
+pub mod Grammar
+pub mod Reading
+pub mod Small
 pub mod Operand
 pub mod Types
 pub mod Typing
