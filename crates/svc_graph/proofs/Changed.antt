@@ -55,7 +55,7 @@ length-brought None (Define formula) = omega arith
 length-brought (Some last) change = omega arith
 
 -- an element that a look-up gives is there
-Has-slice_get : {A : Type 0} (xs : List A) (i : ℕ) (x : A) → slice_get xs i ≡ Some x → Has xs x
+pub Has-slice_get : {A : Type 0} (xs : List A) (i : ℕ) (x : A) → slice_get xs i ≡ Some x → Has xs x
 Has-slice_get [] i x h = absurd (cc)
 Has-slice_get (y ∷ xs) zero x h = inl (cc)
 Has-slice_get (y ∷ xs) (suc i) x h = inr (Has-slice_get xs i x h)

@@ -8,4 +8,5 @@ pub mod Naming
 pub mod Ordered
 pub mod Rewinding
 pub mod Rows
+pub mod Theory
 pub mod Untyped

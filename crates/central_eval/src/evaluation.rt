@@ -1,0 +1,77 @@
+// The central evaluation of a book.
+ghost use Rattle.std.specs.Prelude.{◌≡◌, ℕ, ◌<◌, ◌≤◌, map, length, All, IfOk};
+ghost use Rattle.svc_graph.specs.Central.{AreBorn, AreCentral};
+ghost use Rattle.svc_graph.specs.History.{dependencies};
+ghost use Rattle.svc_graph.specs.Lent.{definition_lent};
+ghost use Rattle.central_eval.specs.Values.{value_at, value_by};
+
+use std::alloc::{AllocError, Global};
+use svc_expr::eval;
+use svc_graph::{Book, DefinitionRef};
+use svc_value::{Fault, OutOfMemory, ServiceId, Value};
+
+// The place of a service among all.
+fn place(id: ServiceId) -> usize
+    ensures { result ≡ id }
+{
+    usize::from(id.0)
+}
+
+// Values that are not there.
+fn no_values(alloc: Global, count: usize) -> Result<Vec<Value>, AllocError>
+    ensures { IfOk result (λ values. length values.items ≡ count) }
+{
+    let mut values = Vec::with_capacity(alloc, count)?;
+    for _ in 0..count {
+        values.push(Value::Bad(Fault::Empty))?;
+    }
+    Ok(values)
+}
+
+// The values of these services, copied.
+fn values_of(alloc: Global, values: &[Value], ids: &[ServiceId]) -> Result<Vec<Value>, OutOfMemory>
+    requires { All (λ p. p < length values.now) ids.now }
+    ensures { IfOk result (λ found. found.items ≡ map (value_at values.now) ids.now) }
+{
+    let mut found = Vec::with_capacity(alloc, ids.len())?;
+    for id in ids {
+        found.push(values[place(*id)].copy()?)?;
+    }
+    Ok(found)
+}
+
+// The meaning of a definition over the values of its dependencies.
+fn value_by(
+    alloc: Global,
+    definition: DefinitionRef<'_>,
+    values: &[Value],
+) -> Result<Value, OutOfMemory>
+    requires few { length (dependencies (definition_lent definition)) ≤ 16 }
+    requires below { All (λ p. p < length values.now) (dependencies (definition_lent definition)) }
+    ensures { IfOk result (λ value. value ≡ value_by (definition_lent definition.entry) values.now) }
+{
+    match definition {
+        DefinitionRef::Input(value) => value.copy(),
+        DefinitionRef::Derived(formula) => {
+            let given = values_of(alloc, values, formula.fixed)?;
+            let members = values_of(alloc, values, formula.members)?;
+            eval(alloc, formula.expr, given.as_slice(), members.as_slice())
+        }
+    }
+}
+
+/// The values of all services of the book, by their numbers: each by its last definition over the values of its dependencies.
+/// Every service has a definition. `OutOfMemory` for want of memory alone.
+pub fn central(alloc: Global, book: &Book) -> Result<Vec<Value>, OutOfMemory>
+    requires { AreBorn book.now }
+    ensures { IfOk result (λ values. AreCentral book.now values.items) }
+{
+    let order = book.rank_order()?;
+    let mut values = no_values(alloc, book.len())?;
+    for id in order.as_slice() {
+        let definition = book.history(*id).present().unwrap();
+        let value = value_by(alloc, definition, values.as_slice())?;
+        values[place(*id)] = value;
+    }
+    Ok(values)
+}
