@@ -1,4 +1,14 @@
+pub mod InsidePlaces
+pub mod InsideReading
+pub mod InsideSteps
+pub mod InsideStuck
+pub mod LiteralPlaces
+pub mod LiteralReads
+pub mod Meanings
+pub mod NumberPlaces
 pub mod Places
+pub mod PrintedQuoted
+pub mod QuotedPlaces
 pub mod Quoting
 pub mod Utf8Places
 pub mod ValuePlaces

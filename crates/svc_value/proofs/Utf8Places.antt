@@ -20,7 +20,7 @@ use Rattle.svc_value.proofs.Places.{place_end, place_here, place_next, place_aft
 
 -- ---- characters from their bytes
 
-scalar_of : (c : ℕ) → Scalar c → IsScalar c
+pub scalar_of : (c : ℕ) → Scalar c → IsScalar c
 scalar_of c (inl h) = grind (arith, nat_tests)
 scalar_of c (inr h) = grind (arith, nat_tests)
 
@@ -223,7 +223,7 @@ fourth_seen x y z w ws l (by_four b d v rest _ u s f g e) =
     subst Follows (sym (heads_of w v ws rest (heads_of z d (w ∷ ws) (v ∷ rest) (heads_of y b (z ∷ w ∷ ws) (d ∷ v ∷ rest) e).1).1).0) g
 
 -- a text is at least as long as the character that begins it
-long_enough : (x room : ℕ) (xs : List ℕ) → 194 ≤ x → Goes x xs → length (x ∷ xs) ≡ room → char_len x ≤ room
+pub long_enough : (x room : ℕ) (xs : List ℕ) → 194 ≤ x → Goes x xs → length (x ∷ xs) ≡ room → char_len x ≤ room
 long_enough x room xs l (alone h) e = absurd (omega arith)
 long_enough x room xs l (by_two b rest _ u f is) e = let n : 2 ≤ room = omega (arith, ap length is) in grind (arith, nat_tests)
 long_enough x room xs l (by_three b d rest _ u s f is) e = let n : 3 ≤ room = omega (arith, ap length is) in grind (arith, nat_tests)

@@ -1,8 +1,11 @@
 pub mod Causes
 pub mod Layout
+pub mod Literal
 pub mod Memory
 pub mod Prefix
 pub mod Printed
+pub mod Quoted
+pub mod Reading
 pub mod Streams
 pub mod Taken
 pub mod Utf8Front

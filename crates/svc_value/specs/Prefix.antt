@@ -11,3 +11,8 @@ pub record IsPlace (Member : List ℕ → Type 0) (bytes : List ℕ) (place : �
   pub within : place ≤ length bytes
   pub begins : Begins Member (take place bytes)
   pub longest : (n : ℕ) → place < n → n ≤ length bytes → ¬ (Begins Member (take n bytes))
+
+-- the bytes are no member of the set; the place is how far they begin one
+pub record IsRefusedAt (Member : List ℕ → Type 0) (bytes : List ℕ) (place : ℕ) : Type 0 where
+  pub none : ¬ (Member bytes)
+  pub at : IsPlace Member bytes place

@@ -2,9 +2,12 @@
 //! the traits of the outside with their fakes, and counters that contracts see.
 #![tactic(auto)]
 
+mod digits;
 mod errors;
+mod inside;
 mod layout;
 mod list;
+mod literal;
 mod memory_sink;
 mod memory_source;
 mod numbers;
@@ -19,6 +22,7 @@ mod value;
 pub use errors::{Failed, OutOfMemory};
 pub use layout::{one_value, put_value};
 pub use list::{Bytes, Clocks, Ids, ListOf, Name, Names};
+pub use literal::{LiteralError, one_literal, one_printed, read_literal, read_value};
 pub use memory_sink::MemorySink;
 pub use memory_source::MemorySource;
 pub use numbers::{Clock, Rank, ServiceId};

@@ -34,15 +34,21 @@ fn print_fault(fault: Fault, out: &mut Vec<u8>) -> Result<(), OutOfMemory>
     ensures ok { OnOk result (out.new.items ≡ out.old.items ++ fault_text fault) }
     ensures err { OnErr result (out.new.items ≡ out.old.items) }
 {
-    let text = match fault {
+    out.extend_from_slice(fault_text(fault).as_bytes())?;
+    Ok(())
+}
+
+// `!` and the name of a fault.
+pub(crate) fn fault_text(fault: Fault) -> &'static str
+    ensures { result.now ≡ fault_text fault }
+{
+    match fault {
         Fault::Overflow => "!overflow",
         Fault::Zero => "!zero",
         Fault::Long => "!long",
         Fault::Number => "!number",
         Fault::Empty => "!empty",
-    };
-    out.extend_from_slice(text.as_bytes())?;
-    Ok(())
+    }
 }
 
 fn print_text(text: &[u8], out: &mut Vec<u8>) -> Result<(), OutOfMemory>

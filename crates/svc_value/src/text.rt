@@ -1,6 +1,7 @@
 // Texts of at most 256 bytes.
 ghost use Rattle.std.specs.Prelude.{◌≡◌, ◌<◌, ◌≤◌, length, IfOk, IfErr, IsErrOf};
 ghost use Rattle.std.specs.Str.{IsUtf8};
+ghost use Rattle.std.specs.String.{string_bytes, string_len};
 
 use crate::OutOfMemory;
 use std::alloc::Global;
@@ -68,6 +69,14 @@ impl ValueText {
         Ok(ValueText {
             text: String::from_str(alloc, text)?,
         })
+    }
+
+    // The text with the characters of a text that is short enough.
+    pub(crate) fn from_string(text: String) -> ValueText
+        requires { string_len text ≤ 256 }
+        ensures { result ≡ string_bytes text }
+    {
+        ValueText { text }
     }
 
     /// The characters of the text.

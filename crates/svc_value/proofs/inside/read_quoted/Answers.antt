@@ -1,0 +1,56 @@
+use Rattle.std.proofs.Common.{rules, ◌≡◌, ap, ◌∙◌, ◌+◌, ◌-◌, length, arith, length-append, chars, string_bytes}
+use Rattle.std.proofs.lemmas.Str.{IsUtf8-past_char}
+use Rattle.std.specs.Char.{encode_utf8}
+use Rattle.std.specs.Str.Iter.{chars_rest}
+use Rattle.svc_value.specs.declared.inside.Inside.TheVariants.{Open}
+use Rattle.svc_value.specs.Reading.{next_step, inside_at}
+use Rattle.svc_value.proofs.InsideSteps.{closes, stops, KeptBy, kept_enter, kept_give, ends}
+use Rattle.svc_value.proofs.inside.read_quoted.Goals as goal
+use Rattle.svc_value.proofs.inside.read_quoted.Goals.{in-Enter, in-Give+in_ok-push-in-Give}
+
+pub returns-in-Close : goal.returns-in-Close
+returns-in-Close c =
+    let held = c.loop-char.invariant in
+    let left : c.len.result ≡ length (string_bytes c.loop-char.words) = search rules in
+    closes c.args.form c.loop-char.inside c.loop-char.at (256 - length (string_bytes c.loop-char.words)) c.in-Some.char (string_bytes c.loop-char.words)
+    (chars_rest c.loop-char.rest) (chars_rest c.next.new.self) _ held.utf8 c.in-Some.ensures.steps.0 held.read
+    c.next_step.result c.from_string.result (c.next_step.ensures ∙ ap (λ n. next_step c.args.form c.loop-char.inside (256 - n) c.in-Some.char) left) c.in-Close.is c.from_string.ensures
+
+pub returns-in-Stop : goal.returns-in-Stop
+returns-in-Stop c =
+    let held = c.loop-char.invariant in
+    let left : c.len.result ≡ length (string_bytes c.loop-char.words) = search rules in
+    stops c.args.form c.loop-char.inside c.loop-char.at (256 - length (string_bytes c.loop-char.words)) c.in-Some.char (string_bytes c.loop-char.words)
+    (chars_rest c.loop-char.rest) (chars_rest c.next.new.self) _ held.utf8 c.in-Some.ensures.steps.0 held.read
+    c.next_step.result (c.next_step.ensures ∙ ap (λ n. next_step c.args.form c.loop-char.inside (256 - n) c.in-Some.char) left) c.in-Stop.is
+
+pub returns : goal.returns
+returns c =
+    let held = c.loop-char.invariant in
+    ends c.args.form c.loop-char.inside c.loop-char.at (256 - length (string_bytes c.loop-char.words)) (string_bytes c.loop-char.words) (chars_rest c.loop-char.rest) _
+    c.in_default.ensures.steps.0.0 held.read
+
+pub loop-char-preserved : goal.loop-char-preserved
+loop-char-preserved c =
+    let held = c.loop-char.invariant in
+    let split = c.in-Some.ensures.steps.0 in
+    let left : c.len.result ≡ length (string_bytes c.loop-char.words) = search rules in
+    let made : c.next_step.result ≡ next_step c.args.form c.loop-char.inside (256 - length (string_bytes c.loop-char.words)) c.in-Some.char =
+    c.next_step.ensures ∙ ap (λ n. next_step c.args.form c.loop-char.inside (256 - n) c.in-Some.char) left in
+    let later = chars_rest c.next.new.self in
+    let on : KeptBy c.args.form (c.loop-char.at + c.len_utf8-at.result) later (inside_at c.args.form (chars c.args.text.now) Open 256) c.match-next_step.inside (string_bytes c.match-next_step.words) =
+    elim c.match-next_step.branch [
+      | in-Enter w ↦ kept_enter c.args.form c.loop-char.inside c.loop-char.at c.len_utf8-at.result c.in-Some.char (string_bytes c.loop-char.words) (chars_rest c.loop-char.rest) later _
+          held.utf8 split held.most held.room held.read c.len_utf8-at.ensures.value c.next_step.result w.in-Enter.next c.match-next_step.inside (string_bytes c.match-next_step.words)
+          made w.in-Enter.is (ap string_bytes w.words-is) w.inside-is
+      | in-Give+in_ok-push-in-Give w ↦ kept_give c.args.form c.loop-char.inside c.loop-char.at c.len_utf8-at.result c.in-Some.char (string_bytes c.loop-char.words) (chars_rest c.loop-char.rest) later _
+          held.utf8 split held.most held.room held.read c.len_utf8-at.ensures.value c.next_step.result w.in-Give.given c.match-next_step.inside (string_bytes w.push.new.self) (string_bytes c.match-next_step.words)
+          made w.in-Give.is w.in_ok-push-in-Give.ensures.bytes (ap string_bytes w.words-is) w.inside-is
+    ] in
+    record {
+      utf8 = IsUtf8-past_char _ _ c.in-Some.char held.utf8 split;
+      place = omega (arith, ap length split, length-append (encode_utf8 c.in-Some.char) later, c.len_utf8-at.ensures.len, held.place);
+      most = on.most;
+      room = on.room;
+      read = on.read;
+    }
