@@ -30,4 +30,6 @@ pub fn stream_comes_in_pieces()
         items ≡ items_of stream }
     ensures too_long { (stream : List ℕ) (items : List (List ℕ)) (cut : Cut) → IsCutting stream items cut → IsTooLong cut.held →
         items ≡ items_of stream }
+    // A length that no item has stands in front for ever.
+    ensures stays { (held more : List ℕ) → IsTooLong held → IsTooLong (held ++ more) }
 {}
