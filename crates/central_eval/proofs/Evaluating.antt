@@ -1,15 +1,15 @@
 -- How the values of services come about one after another.
-use Rattle.std.proofs.Common.{◌≡◌, ℕ, zero, suc, ◌+◌, ◌<◌, ◌≤◌, List, [], ◌∷◌, ◌++◌, length, length-append, get_or, set, map, All, Contains, IsPermutation, Option, Some, None, is_some, option_map, true, ◌-◌, refl, sym, ap, ◌∙◌, subst, inl, inr, add-zero, zero-add, arith}
+use Rattle.std.proofs.Common.{◌≡◌, ℕ, suc, ◌+◌, ◌<◌, ◌≤◌, List, [], ◌∷◌, ◌++◌, length, length-append, get_or, set, map, All, Contains, IsPermutation, Option, Some, None, is_some, option_map, true, ◌-◌, refl, sym, ap, ◌∙◌, subst, inl, inr, add-zero, zero-add, arith}
 use Rattle.std.proofs.lemmas.Bool.{cases_lt, cases_eq}
 use Rattle.std.proofs.lemmas.List.{get_or-append-add, get_or_default}
 use Rattle.std.proofs.lemmas.List.{get_or-set_same, get_or-set_other}
-use Rattle.std.proofs.lemmas.List.Sorted.{All-permutation, Contains-permutation}
+use Rattle.std.proofs.lemmas.List.Sorted.{Contains-permutation}
 use Rattle.propagation.proofs.Central.{central_cons}
 use Rattle.propagation.specs.Words.{Has}
 use Rattle.propagation.specs.History.{Central, CentralAt, definition, now}
 use Rattle.std.proofs.lemmas.Option.{slice_get-get_or}
-use Rattle.std.proofs.lemmas.List.FromFn.{length-range_with_len, get_or-range_with_len}
-use Rattle.svc_graph.proofs.Ordered.{services-below, services-range}
+use Rattle.svc_graph.proofs.Ordered.{Contains-services, services_within}
+use Rattle.svc_graph.proofs.Lists.{get_or-Has}
 use Rattle.svc_graph.proofs.Theory.{AreBelow, AreBelow-definition, definition-now}
 use Rattle.svc_graph.specs.Book.{IsBook}
 use Rattle.svc_graph.specs.Central.{AreCentral, services, services_from}
@@ -23,15 +23,6 @@ use Rattle.central_eval.specs.Values.{nothing, value_at, value_by}
 pub All-right : (P : ℕ → Type 0) (xs ys : List ℕ) → All P (xs ++ ys) → All P ys
 All-right P xs ys h k d within =
     subst P (get_or-append-add xs ys k d) (h (length xs + k) d (omega (arith, length-append xs ys)))
-
--- each number below the count is a service
-Contains-services : (rows : List Row) (p : ℕ) → p < length rows → Contains (services rows) p
-Contains-services rows p declared =
-    (p, rw (services-range rows, length-range_with_len) declared, ap (λ ns. get_or ns p p) (services-range rows) ∙ get_or-range_with_len 0 (length rows) p p declared ∙ zero-add p)
-
--- each service of the list is declared
-pub services_within : (rows : List Row) (ids : List ℕ) → IsPermutation (services rows) ids → (k : ℕ) → k < length ids → get_or ids k 0 < length rows
-services_within rows ids all k within = All-permutation (λ n. n < length rows) (services rows) ids all (services-below rows) k 0 within
 
 -- the services of the list up to k have their central values
 abbrev pub AreDone : List Row → List ℕ → ℕ → List Value → Type 0
@@ -136,11 +127,6 @@ present-born (d ∷ ds) born =
 pub is_some-option_map : {A B : Type 0} (f : A → B) (o : Option A) → is_some (option_map f o) ≡ is_some o
 is_some-option_map f None = refl
 is_some-option_map f (Some x) = refl
-
-get_or-Has : (ps : List ℕ) (k d : ℕ) → k < length ps → Has ps (get_or ps k d)
-get_or-Has [] k d within = absurd (omega arith)
-get_or-Has (p ∷ ps) zero d within = inl refl
-get_or-Has (p ∷ ps) (suc k) d within = inr (get_or-Has ps k d (omega arith))
 
 -- the dependencies of a last definition are at most 16 declared services
 pub few-dependencies : (rows : List Row) (n : ℕ) (d : Definition) → IsBook rows → present (history_of rows n) ≡ Some d → length (dependencies d) ≤ 16

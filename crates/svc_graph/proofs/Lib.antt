@@ -7,6 +7,7 @@ pub mod Lists
 pub mod Naming
 pub mod Ordered
 pub mod Rewinding
+pub mod Reached
 pub mod Rows
 pub mod Theory
 pub mod Untyped

@@ -1,9 +1,9 @@
 -- Small facts on lists and tests.
-use Rattle.propagation.specs.Words.{is_among}
+use Rattle.propagation.specs.Words.{Has, is_among}
 use Rattle.std.proofs.lemmas.List.FromFn.{map-range_with_len_more}
 use Rattle.std.specs.List.{list_any, range_with_len}
 use Rattle.std.specs.Prelude.{Result, Ok, Err, OnErr}
-use Rattle.std.proofs.Common.{◌≡◌, ℕ, zero, suc, ◌<◌, Bool, true, false, ◌&&◌, ◌||◌, ◌==◌, if◌then◌else◌, List, [], ◌∷◌, ◌++◌, length, slice_get, Some, refl, arith, ◌+◌, map, zero-add, sym, ap, ◌∙◌}
+use Rattle.std.proofs.Common.{◌≡◌, ℕ, zero, suc, ◌<◌, Bool, true, false, ◌&&◌, ◌||◌, ◌==◌, if◌then◌else◌, List, [], ◌∷◌, ◌++◌, length, slice_get, Some, refl, arith, ◌+◌, map, zero-add, sym, ap, ◌∙◌, get_or, inl, inr}
 
 -- both tests hold where their conjunction does
 pub and_left : (a b : Bool) → (a && b) ≡ true → a ≡ true
@@ -59,3 +59,9 @@ range_with_len-more n =
     map-same : (xs : List ℕ) → map (λ k. k) xs ≡ xs
     map-same [] = refl
     map-same (x ∷ xs) = ap (λ ys. x ∷ ys) (map-same xs)
+
+-- an element of a list is there
+pub get_or-Has : {A : Type 0} (xs : List A) (k : ℕ) (d : A) → k < length xs → Has xs (get_or xs k d)
+get_or-Has [] k d within = absurd (omega arith)
+get_or-Has (x ∷ xs) zero d within = inl refl
+get_or-Has (x ∷ xs) (suc k) d within = inr (get_or-Has xs k d (omega arith))

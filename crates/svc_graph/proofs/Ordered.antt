@@ -1,5 +1,5 @@
 -- The order by rank and number.
-use Rattle.std.proofs.Common.{◌≡◌, ℕ, suc, ◌+◌, ◌*◌, ◌<◌, ◌≤◌, List, [], ◌∷◌, length, get_or, All, IsPermutation, refl, sym, ap, ◌∙◌, subst, inl, inr, ◌⊎◌, add-one, arith}
+use Rattle.std.proofs.Common.{◌≡◌, ℕ, suc, ◌+◌, ◌*◌, ◌<◌, ◌≤◌, List, [], ◌∷◌, length, get_or, All, IsPermutation, refl, sym, ap, ◌∙◌, subst, inl, inr, ◌⊎◌, add-one, arith, Contains, zero-add}
 use Rattle.std.proofs.lemmas.Bool.{cases_lt}
 use Rattle.std.proofs.lemmas.List.FromFn.{length-range_with_len, get_or-range_with_len}
 use Rattle.std.proofs.lemmas.List.Sorted.{All-permutation}
@@ -23,6 +23,15 @@ pub services-below : (rows : List Row) → All (λ n. n < length rows) (services
 services-below rows k d within =
     let small : k < length rows = rw (services-range rows, length-range_with_len) at within in
     subst (λ n. n < length rows) (sym (ap (λ ns. get_or ns k d) (services-range rows) ∙ get_or-range_with_len 0 (length rows) k d small)) (omega arith)
+
+-- each number below the count is one of them
+pub Contains-services : (rows : List Row) (p : ℕ) → p < length rows → Contains (services rows) p
+Contains-services rows p declared =
+    (p, rw (services-range rows, length-range_with_len) declared, ap (λ ns. get_or ns p p) (services-range rows) ∙ get_or-range_with_len 0 (length rows) p p declared ∙ zero-add p)
+
+-- each service of a list of them all is declared
+pub services_within : (rows : List Row) (ids : List ℕ) → IsPermutation (services rows) ids → (k : ℕ) → k < length ids → get_or ids k 0 < length rows
+services_within rows ids all k within = All-permutation (λ n. n < length rows) (services rows) ids all (services-below rows) k 0 within
 
 -- two keys in order
 keys-apart : (a b p q : ℕ) → p < 65536 → q < 65536 → a * 65536 + p ≤ b * 65536 + q → (a < b) ⊎ ((a ≡ b) × (p ≤ q))

@@ -4,6 +4,7 @@ ghost use Rattle.std.specs.Str.{bytes_eq};
 ghost use Rattle.svc_graph.specs.Columns.{bytes_of};
 
 mod order;
+mod reach;
 mod rewinding;
 
 use crate::checks::check;

@@ -1,6 +1,7 @@
 use Rattle.std.proofs.Common.{◌≡◌, ◌∙◌, ◌+◌, ◌<◌, All, Some, get_or, set, length, is_some, option_map, sym, ap, subst, arith}
 use Rattle.std.proofs.lemmas.List.{get_or_default, length-set}
-use Rattle.central_eval.proofs.Evaluating.{AreCentral-done, AreDone, AreDone-more, dependencies-declared, few-dependencies, is_some-option_map, present-born, services_within}
+use Rattle.central_eval.proofs.Evaluating.{AreCentral-done, AreDone, AreDone-more, dependencies-declared, few-dependencies, is_some-option_map, present-born}
+use Rattle.svc_graph.proofs.Ordered.{services_within}
 use Rattle.central_eval.specs.Values.{value_by}
 use Rattle.svc_graph.specs.History.{dependencies, history_of, present}
 use Rattle.svc_graph.specs.Lent.{definition_lent}
