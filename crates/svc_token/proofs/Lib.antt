@@ -1,4 +1,5 @@
 pub mod CutLemmas
+pub mod FrontLemmas
 pub mod NumberLemmas
 pub mod QuotedLemmas
 pub mod WordLemmas

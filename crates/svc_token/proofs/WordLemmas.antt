@@ -65,11 +65,15 @@ list_all-take_while p [] = refl
 list_all-take_while p (x ∷ xs) = all_taken p x xs (p x) refl (list_all-take_while p xs)
 
 -- letters, digits and `_` from a letter on are a word
+pub is_word-taken : (b : ℕ) (rest : List ℕ) → is_ascii_alphabetic b ≡ true → is_word (take_while is_word_byte (b ∷ rest)) ≡ true
+is_word-taken b rest h =
+    let on : is_word_byte b ≡ true = ap (λ (p : Bool). (p || is_ascii_digit b) || b == 95) h in
+    ap is_word (taken_on is_word_byte b rest on)
+    ∙ ap (λ (p : Bool). p && list_all is_word_byte (take_while is_word_byte rest)) h
+    ∙ list_all-take_while is_word_byte rest
+
 pub is_word-front : (text : List ℕ) → 0 < length text → is_ascii_alphabetic (get_or text 0 0) ≡ true
     → is_word (take (length (take_while is_word_byte text)) text) ≡ true
 is_word-front [] below h = absurd (omega arith)
 is_word-front (b ∷ rest) below h =
-    let on : is_word_byte b ≡ true = ap (λ (p : Bool). (p || is_ascii_digit b) || b == 95) h in
-    let all : take (length (take_while is_word_byte (b ∷ rest))) (b ∷ rest) ≡ b ∷ take_while is_word_byte rest =
-    ap (λ (n : ℕ). take n (b ∷ rest)) (length-prefix_len is_word_byte (b ∷ rest)) ∙ taken_on is_word_byte b rest on in
-    ap is_word all ∙ ap (λ (p : Bool). p && list_all is_word_byte (take_while is_word_byte rest)) h ∙ list_all-take_while is_word_byte rest
+    ap (λ (n : ℕ). is_word (take n (b ∷ rest))) (length-prefix_len is_word_byte (b ∷ rest)) ∙ is_word-taken b rest h

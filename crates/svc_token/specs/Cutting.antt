@@ -6,7 +6,7 @@ use Rattle.svc_token.specs.declared.keyword.Keyword.{Keyword}
 use Rattle.svc_token.specs.declared.token.Token.{Token}
 use Rattle.svc_token.specs.declared.token.Token.TheVariants as tok
 use Rattle.svc_token.specs.Keyword.{keyword_of}
-use Rattle.svc_token.specs.Word.{is_word_byte, number_of}
+use Rattle.svc_token.specs.Word.{is_word_byte, number_of, IsName}
 
 -- space, tab, CR
 abbrev pub is_blank : ℕ → Bool
@@ -91,3 +91,13 @@ pub data Cuts : List ℕ → List Token → Type 0 where
   ends : Cuts [] []
   blank : {b : ℕ} {text : List ℕ} {tokens : List Token} → is_blank b ≡ true → Cuts text tokens → Cuts (b ∷ text) tokens
   token : {text : List ℕ} {first : Token} {n : ℕ} {tokens : List Token} → front text ≡ Some (first, n) → Cuts (drop n text) tokens → Cuts text (first ∷ tokens)
+
+-- the token is a name where it is said to be one
+abbrev pub IsNamed : Token → Type 0
+IsNamed (tok.Name word) = IsName word
+IsNamed other = Unit {0}
+
+-- so is each of these
+abbrev pub AreNamed : List Token → Type 0
+AreNamed [] = Unit {0}
+AreNamed (first ∷ tokens) = IsNamed first × AreNamed tokens
