@@ -1,6 +1,6 @@
 -- What a leg makes of the rows of a book, and when it can be taken.
-use Rattle.std.specs.Prelude.{◌≡◌, ◌≢◌, ℕ, ◌<◌, ◌≤◌, nat_eq, List, [], ◌∷◌, ◌++◌, map, length, drop, All, None}
-use Rattle.std.specs.List.{IsDistinct}
+use Rattle.std.specs.Prelude.{◌≡◌, ◌≢◌, ℕ, ◌<◌, ◌≤◌, List, [], ◌∷◌, ◌++◌, map, length, drop, All, None}
+use Rattle.propagation.specs.Words.{Apart}
 use Rattle.svc_expr.specs.Tree.{Tree, tree_of, given, pair}
 use Rattle.svc_expr.specs.declared.expr.Op.TheVariants.{Add}
 use Rattle.svc_graph.specs.declared.definition.Change.{Change}
@@ -78,7 +78,7 @@ pub data IsSum : Tree → ℕ → Type 0 where
 pub record IsFormulaAfter (rows : List Row) (formula : Formula) : Type 0 where
   pub sum : IsSum (tree_of formula.expr) (length formula.fixed)
   pub inputs : All (IsBornInput rows) formula.fixed
-  pub distinct : IsDistinct nat_eq formula.fixed
+  pub distinct : Apart formula.fixed
   pub no_members : formula.members ≡ []
 
 -- the birth of a service that has none, or a new value of an input
