@@ -20,7 +20,7 @@ module _ (rows more : List Row) where
   more_long : (n : ℕ) → n < length rows → n < length (rows ++ more)
   more_long n h = omega (arith, length-append rows more, h)
 
-  born-more : (n : ℕ) → IsBornInput rows n → IsBornInput (rows ++ more) n
+  pub born-more : (n : ℕ) → IsBornInput rows n → IsBornInput (rows ++ more) n
   born-more n b =
       let at = row_at-append rows more n b.declared in
       record {

@@ -6,4 +6,7 @@ pub mod LineLemmas
 pub mod NameLemmas
 pub mod RowLemmas
 pub mod SaidLemmas
+pub mod ServedLemmas
+pub mod StandingLemmas
 pub mod TakingLemmas
+pub mod TreeLemmas

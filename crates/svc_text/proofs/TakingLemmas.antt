@@ -2,6 +2,7 @@
 use Rattle.std.proofs.Common.{◌≡◌, ℕ, ◌+◌, ◌<◌, ◌≤◌, Bool, true, false, List, [], ◌∷◌, ◌++◌, length, refl, sym, ap, subst, ◌∙◌, arith, append_assoc, inr, ⊎_elim}
 use Rattle.std.specs.Prelude.{reverse}
 use Rattle.std.proofs.lemmas.List.{append-nil, reverse-append, reverse-reverse}
+use Rattle.svc_text.specs.declared.plan.Leg.{Leg}
 use Rattle.svc_text.specs.declared.plan.Mode.{Mode}
 use Rattle.svc_text.specs.declared.refusal.Code.TheVariants.{E04}
 use Rattle.svc_text.specs.declared.refusal.Refusal.{Refusal}
@@ -35,7 +36,7 @@ state_is (Input name ty value ∷ before) = ap (λ (s : State). next s (Input na
 state_is (Derived name ty rank formula ∷ before) = ap (λ (s : State). next s (Derived name ty rank formula)) (state_is before)
 state_is (Set name value ∷ before) = ap (λ (s : State). next s (Set name value)) (state_is before)
 
-refuses_is : (before : List Statement) (statement : Statement) → refuses (state_after before) statement ≡ is_refused before statement
+pub refuses_is : (before : List Statement) (statement : Statement) → refuses (state_after before) statement ≡ is_refused before statement
 refuses_is before statement = ap (λ (s : State). refuses s statement) (state_is before)
 
 pub legs_are : (before : List Statement) → legs_in (state_after before) ≡ legs_of before
@@ -147,3 +148,6 @@ pub refusal_here : (mode : Mode) (bytes rest after line : List ℕ) (count : ℕ
     → (refusal : Refusal) → refusal ≡ record { line = count + 1; code = E04 } → IsRefusal mode bytes refusal
 refusal_here mode bytes rest after line count state r split short h refusal e =
     subst (IsRefusal mode bytes) (sym e) (inr (short, refused_here mode bytes rest after line count state r split h, refl))
+
+pub one_plan : (mode : Mode) (bytes : List ℕ) (a b : List Leg) → HasLegs mode bytes a → HasLegs mode bytes b → a ≡ b
+one_plan mode bytes a b (ss, d, e) (ts, i, j) = e ∙ ap legs_of (one_reading d.lines i.lines) ∙ sym j

@@ -1,8 +1,11 @@
 // Documents are read.
-ghost use Rattle.std.specs.Prelude.{◌≡◌, ◌≤◌, ◌<◌, [], length, IfOk, IfErr};
+ghost use Rattle.std.specs.Prelude.{◌≡◌, ◌≤◌, [], ℕ, List, length, IfOk, IfErr};
+ghost use Rattle.svc_text.specs.declared.plan.Leg.{Leg};
+ghost use Rattle.svc_text.specs.declared.plan.Mode.{Mode};
 ghost use Rattle.svc_text.specs.declared.refusal.Refusal.{Refusal};
 ghost use Rattle.svc_text.specs.Document.{HasLegs, IsAccepted, IsRefusal};
 ghost use Rattle.svc_text.specs.Reader.{state};
+ghost use Rattle.svc_text.specs.Rows.{AreLegsAfter};
 ghost use Rattle.svc_text.specs.State.{legs_in};
 
 use crate::line::first_line;
@@ -57,6 +60,10 @@ fn read_lines(alloc: Global, bytes: &[u8], mode: Mode) -> Result<Reader, DocErro
 /// accepted, of whole numbers, in both modes.
 pub fn read_document(alloc: Global, bytes: &[u8], mode: Mode) -> Result<Plan, DocError>
     ensures plan { IfOk result (λ plan. HasLegs mode bytes.now plan.legs) }
+    ensures legs { IfOk result (λ plan. AreLegsAfter [] plan.legs) }
+    ensures few { IfOk result (λ plan. length plan.legs ≤ 1000) }
+
+    // It comes exactly for what is not accepted.
     ensures refused { IfErr result (λ e. (refusal : Refusal) → e ≡ DocError.Refused refusal → IsRefusal mode bytes.now refusal) }
     ensures not_accepted { IfErr result (λ e. (refusal : Refusal) → e ≡ DocError.Refused refusal → IsAccepted mode bytes.now → ⊥) }
 {
@@ -71,3 +78,8 @@ pub fn read_document(alloc: Global, bytes: &[u8], mode: Mode) -> Result<Plan, Do
         legs: reader.into_legs()?,
     })
 }
+
+/// An accepted document says one list of legs.
+pub fn one_plan()
+    ensures { (mode : Mode) (bytes : List ℕ) (a b : List Leg) → HasLegs mode bytes a → HasLegs mode bytes b → a ≡ b }
+{}

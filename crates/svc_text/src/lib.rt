@@ -17,7 +17,7 @@ mod stop;
 #[cfg(test)]
 mod tests;
 
-pub use document::{LONGEST_DOCUMENT, read_document};
+pub use document::{LONGEST_DOCUMENT, one_plan, read_document};
 pub use line::LONGEST_LINE;
 pub use plan::{
     Leg, Mode, Plan, PlanChange, PlanChanges, PlanLegs, ServiceLine, ServiceLines, StepEvent,
