@@ -1,0 +1,56 @@
+// Walks over the keys of stamps, with one look for each comparison of a clock.
+ghost use Rattle.std.specs.Prelude.{◌≡◌, ◌+◌, ◌≤◌, length, nat_lt};
+ghost use Rattle.propagation.specs.Stamps.{clock_of};
+ghost use Rattle.service_machine.specs.States.{raise};
+ghost use Rattle.service_machine.specs.Turning.{lag};
+
+use stamp_clock::{Floor, Stamps};
+use std::sync::ledger::Ledger;
+use svc_value::{Clock, ServiceId, Steps};
+
+// Takes for each key the greater clock of the two.
+pub(crate) fn raise_tops<L: Ledger>(tops: &mut Floor, stamps: &Stamps, looks: &mut Steps<L>)
+    ensures raised { tops.new ≡ raise tops.old stamps.now }
+    ensures looks { looks.new ≡ looks.old + length stamps.now }
+{
+    let mut start = 0;
+    let mut place = 0;
+    while let Some(key) = stamps.next_key(start) {
+        looks.tick();
+        tops.raise_one(key, stamps.clock_at(place));
+        start = key.0 + 1;
+        place += 1;
+    }
+}
+
+// The least key on which the stamps lag.
+pub(crate) fn first_lag<L: Ledger>(
+    tops: &Floor,
+    stamps: &Stamps,
+    looks: &mut Steps<L>,
+) -> Option<ServiceId>
+    ensures key { result ≡ lag tops.now stamps.now }
+    ensures looks { looks.new ≤ looks.old + length stamps.now }
+{
+    let mut start = 0;
+    let mut place = 0;
+    while let Some(key) = stamps.next_key(start) {
+        looks.tick();
+        if is_below(tops, key, stamps.clock_at(place)) {
+            return Some(key);
+        }
+        start = key.0 + 1;
+        place += 1;
+    }
+    None
+}
+
+// Whether the clock of a key is below its greatest one.
+fn is_below(tops: &Floor, key: ServiceId, clock: Clock) -> bool
+    ensures { result ≡ nat_lt clock (clock_of tops.now key) }
+{
+    match tops.get(key) {
+        Some(top) => clock < top,
+        None => false,
+    }
+}
