@@ -9,3 +9,9 @@ pub mod Complete
 pub mod NameLemmas
 pub mod Laws
 pub mod QuotedLemmas
+pub mod PrintLemmas
+pub mod Spelled
+pub mod Unquoted
+pub mod Written
+pub mod QuotedCut
+pub mod Again

@@ -1,9 +1,11 @@
 -- The names of an expression, and the numbers by which its tree mentions them.
-use Rattle.std.proofs.Common.{◌≡◌, ℕ, zero, suc, ◌+◌, ◌<◌, ◌≤◌, min, max, Bool, true, false, not, cond, if◌then◌else◌, nat_lt, inl, inr, List, [], ◌∷◌, ◌++◌, map, length, take, drop, Option, Some, None, refl, sym, ap, ◌∙◌, append_assoc, length-append, arith}
-use Rattle.std.specs.Prelude.{nat_le, ◌&&◌}
+use Rattle.std.proofs.Common.{◌≡◌, ℕ, zero, suc, ◌+◌, ◌<◌, ◌≤◌, min, max, Bool, true, false, not, cond, if◌then◌else◌, nat_lt, inl, inr, List, [], ◌∷◌, ◌++◌, map, length, take, drop, Option, Some, None, refl, sym, ap, ◌∙◌, append_assoc, length-append, arith, subst}
+use Rattle.std.specs.Prelude.{◌==◌, nat_le, ◌&&◌}
 use Rattle.std.specs.List.{prefix_len}
 use Rattle.std.specs.Str.{bytes_eq}
-use Rattle.std.proofs.lemmas.Bool.{lt-ltb, le-ltb, lt-leb, cases_lt}
+use Rattle.std.proofs.Math.ListN.{get_or-append}
+use Rattle.std.proofs.Math.Seq.{get_or-append_seam}
+use Rattle.std.proofs.lemmas.Bool.{and_from, eq-eqb, lt-ltb, le-ltb, lt-leb, cases_lt}
 use Rattle.std.proofs.lemmas.List.{length-map, append-nil, take_all, drop_all, take-append-le}
 use Rattle.svc_token.specs.declared.token.Token.{Token}
 use Rattle.svc_token.specs.declared.token.Token.TheVariants.{Name}
@@ -15,9 +17,10 @@ use Rattle.svc_expr.specs.declared.level.Form.TheVariants as form
 use Rattle.svc_expr.specs.declared.level.Aggregate.{Aggregate}
 use Rattle.svc_expr.specs.declared.level.Aggregate.TheVariants as aggregate
 use Rattle.svc_expr.specs.Tree.{Tree, number, words, given, negated, denied, pair, choice, len_of, number_of, text_of, sum_of_members, count_of_members, least_member, greatest_member, nodes}
-use Rattle.svc_expr.specs.Types.{name_count}
+use Rattle.svc_expr.specs.Types.{name_count, mentions}
 use Rattle.svc_expr.specs.Grammar.{operator, at_level, joins, formed, aggregated, place_of, with_names, names_among, Spells, whole_number, negative_number, quoted_text, named, in_brackets, call, member_call, negation, joined, comparison, denial, if_then_else, as_tighter}
 use Rattle.svc_expr.specs.Reading.{naming}
+use Rattle.svc_expr.specs.Canonical.{name_at}
 use Rattle.svc_expr.specs.Small.{fit}
 
 abbrev pub Names : Type 0
@@ -92,18 +95,6 @@ fit_given k m h =
 -- the first 256 names are enough for the names of a tree within the limits
 pub naming_taken : (names : Names) → naming fit (take 256 names) ≡ naming fit names
 naming_taken names = λ i name. fit_given (place_of (take 256 names) name) (place_of names name) (prefix_take (λ other. not (bytes_eq other name)) 256 names) i
-
--- the numbers of the names that a tree mentions, from left to right
-abbrev pub mentions : Tree → List ℕ
-mentions (given k) = k ∷ []
-mentions (negated a) = mentions a
-mentions (denied a) = mentions a
-mentions (pair op a b) = mentions a ++ mentions b
-mentions (choice c a b) = mentions c ++ mentions a ++ mentions b
-mentions (len_of a) = mentions a
-mentions (number_of a) = mentions a
-mentions (text_of a) = mentions a
-mentions leaf = []
 
 mentions_formed : (f : Form) (a : Tree) → mentions (formed f a) ≡ mentions a
 mentions_formed form.Neg a = refl
@@ -218,3 +209,47 @@ module _ (names : Names) where
   low_names {ts = ts} {e = e} s =
       let k = ap (λ (l : List ℕ). top l) (whole_mentions s) in
       omega (arith, name_count_is e, top_places names (names_among ts))
+
+-- names that stand once each: each is found at its place
+abbrev pub Apart : Names → Type 0
+Apart names = (k : ℕ) → k < length names → place_of names (name_at names k) ≡ k
+
+place_append : (names more : Names) (name : List ℕ) → place_of names name < length names → place_of (names ++ more) name ≡ place_of names name
+place_append [] more name h = absurd (omega arith)
+place_append (other ∷ names) more name h =
+    elim (not (bytes_eq other name)) as (λ b. cond b (1 + place_of names name) 0 < length (other ∷ names) → cond b (1 + place_of (names ++ more) name) 0 ≡ cond b (1 + place_of names name) 0) [
+      | true ↦ λ g. let k = place_append names more name (omega arith) in omega arith
+      | false ↦ λ g. refl
+    ] h
+
+same_bytes : (name : List ℕ) → bytes_eq name name ≡ true
+same_bytes [] = refl
+same_bytes (b ∷ name) = and_from (b == b) (bytes_eq name name) (eq-eqb b b refl) (same_bytes name)
+
+place_new : (names : Names) (name : List ℕ) → length names ≤ place_of names name → place_of (names ++ name ∷ []) name ≡ length names
+place_new [] name h = ap (λ (b : Bool). cond (not b) 1 0) (same_bytes name)
+place_new (other ∷ names) name h =
+    elim (not (bytes_eq other name)) as (λ b. length (other ∷ names) ≤ cond b (1 + place_of names name) 0 → cond b (1 + place_of (names ++ name ∷ []) name) 0 ≡ length (other ∷ names)) [
+      | true ↦ λ g. let k = place_new names name (omega arith) in omega arith
+      | false ↦ λ g. absurd (omega arith)
+    ] h
+
+apart_more : (names : Names) (name : List ℕ) → Apart names → length names ≤ place_of names name → Apart (names ++ name ∷ [])
+apart_more names name h g k l =
+    let all = names ++ name ∷ [] in
+    elim (cases_lt k (length names)) [
+      | inl before ↦
+          let at = h k before in
+          ap (place_of all) (get_or-append names (name ∷ []) [] k before) ∙ place_append names (name ∷ []) (name_at names k) (omega arith) ∙ at
+      | inr behind ↦
+          let last : k ≡ length names = omega (arith, length-append names (name ∷ [])) in
+          ap (λ (n : ℕ). place_of all (name_at all n)) last ∙ ap (place_of all) (get_or-append_seam names name [] []) ∙ place_new names name g ∙ sym last
+    ]
+
+pub apart : (names more : Names) → Apart names → Apart (with_names names more)
+apart names [] h = h
+apart names (name ∷ more) h =
+    elim (cases_lt (place_of names name) (length names)) [
+      | inl l ↦ subst Apart (ap (λ (b : Bool). with_names (if b then names else names ++ name ∷ []) more) (sym (lt-ltb (place_of names name) (length names) l))) (apart names more h)
+      | inr g ↦ subst Apart (ap (λ (b : Bool). with_names (if b then names else names ++ name ∷ []) more) (sym (le-ltb (place_of names name) (length names) g))) (apart (names ++ name ∷ []) more (apart_more names name h g))
+    ]

@@ -3,6 +3,7 @@ pub mod Meaning
 pub mod Quoted
 pub mod Grammar
 pub mod Reading
+pub mod Canonical
 pub mod Small
 pub mod Operand
 pub mod Types

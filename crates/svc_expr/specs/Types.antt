@@ -19,6 +19,18 @@ name_count (number_of a) = name_count a
 name_count (text_of a) = name_count a
 name_count leaf = 0
 
+-- the numbers of the names that a tree mentions, from left to right
+abbrev pub mentions : Tree → List ℕ
+mentions (given k) = k ∷ []
+mentions (negated a) = mentions a
+mentions (denied a) = mentions a
+mentions (pair op a b) = mentions a ++ mentions b
+mentions (choice c a b) = mentions c ++ mentions a ++ mentions b
+mentions (len_of a) = mentions a
+mentions (number_of a) = mentions a
+mentions (text_of a) = mentions a
+mentions leaf = []
+
 -- whether the tree has the sum, the least or the greatest of the members
 abbrev pub takes_numbers : Tree → Bool
 takes_numbers (negated a) = takes_numbers a
