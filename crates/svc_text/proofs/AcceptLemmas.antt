@@ -72,7 +72,7 @@ held-last rows most line ty h = record {
 
 kind_is : (rows : List Row) (n most rank : ℕ) → Held rows most → n < length rows → (row_at rows n).rank ≡ rank
     → kind_at (roster_of rows) n ≡ record { rank = rank; ty = type.Int }
-kind_is rows n most rank h within is = kind_at-roster rows n within ∙ (λ i. record { rank = is i; ty = h.types n i })
+kind_is rows n most rank h within is = kind_at-roster rows n ∙ (λ i. record { rank = is i; ty = h.types n i })
 
 input_accepted : (rows : List Row) (n most : ℕ) (value : Value) → Held rows most → most < 1024000 → IsUnborn rows n 0 → IsWhole value
     → IsAcceptedAfter rows n (Birth (Input value))
