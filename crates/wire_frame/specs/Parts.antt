@@ -1,4 +1,4 @@
--- Parts of a frame: what can stand there, the bytes that spell it, and the field of each of these bytes.
+-- Parts of a frame, and where some bytes stop to be one.
 use Rattle.std.specs.Prelude.{◌≡◌, ℕ, suc, ◌+◌, ◌<◌, ◌≤◌, ◌^◌, List, [], ◌∷◌, ◌++◌, length, get_or, take, drop, replicate}
 use Rattle.wire_frame.specs.declared.reason.FrameReason.{FrameReason}
 use Rattle.wire_frame.specs.declared.reason.FrameReason.TheVariants.{Short}
@@ -9,6 +9,7 @@ use Rattle.svc_value.specs.Layout.{layout, IsWithin}
 use Rattle.wire_frame.specs.Fields.{key_fields, value_fields}
 use Rattle.wire_frame.specs.Frames.{word, half}
 
+-- things of one kind: which of them can stand, the bytes of each, and the field of each byte
 pub record Part (X : Type 0) : Type 1 where
   pub Good : X → Type 0
   pub bytes : X → List ℕ

@@ -22,7 +22,11 @@ impl Model for Cutter {
 
     ghost Value = { Cut };
 
-    ghost view = { λ c. record { held = drop c.start c.bytes.items; offset = c.at; spare = vec_capacity c.bytes - vec_len c.bytes } };
+    ghost view = { λ c. record {
+      held = drop c.start c.bytes.items;
+      offset = c.at;
+      spare = vec_capacity c.bytes - vec_len c.bytes;
+    } };
 
     ghost invariant = { λ c. c.start ≤ vec_len c.bytes };
 }
@@ -93,7 +97,8 @@ impl Cutter {
         ensures partial { IsPartial self.old.held → result ≡ Ok None }
 
         ensures err { IfErr result (λ _. self.new ≡ self.old) }
-        ensures refused { (at : ℕ) → result ≡ Err (CutError.Length at) → (at ≡ self.old.offset) × IsTooLong self.old.held }
+        ensures refused { (at : ℕ) → result ≡ Err (CutError.Length at) →
+            (at ≡ self.old.offset) × IsTooLong self.old.held }
         ensures too_long { IsTooLong self.old.held → result ≡ Err (CutError.Length self.old.offset) }
     {
         let item = match self.front() {

@@ -64,7 +64,8 @@ impl Framer {
         ensures partial { IsPartial self.old.held → result ≡ Ok None }
 
         ensures err { IfErr result (λ _. self.new ≡ self.old) }
-        ensures bad { (at place : ℕ) (why : Reason) → result ≡ Err (StreamError.Bad at place why) → (at ≡ self.old.offset) × IsWrongNext self.old.held place why }
+        ensures bad { (at place : ℕ) (why : Reason) → result ≡ Err (StreamError.Bad at place why) →
+            (at ≡ self.old.offset) × IsWrongNext self.old.held place why }
     {
         let (frame, size) = match self.cutter.front() {
             Ok(Some(item)) => match whole_frame(self.alloc, item) {

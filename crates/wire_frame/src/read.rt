@@ -14,7 +14,8 @@ use std::alloc::Global;
 pub fn read_frame(alloc: Global, bytes: &[u8]) -> Result<(Frame, usize), FrameError>
     ensures ok { IfOk result (λ read. IsAtFront bytes.now read.0 read.1) }
     ensures bad { IfErr result (IsRefused bytes.now) }
-    ensures memory { result ≡ Err FrameError.OutOfMemory → (3 ≤ slice_index bytes.now 0) × (slice_index bytes.now 0 ≤ 5) }
+    ensures memory { result ≡ Err FrameError.OutOfMemory →
+        (3 ≤ slice_index bytes.now 0) × (slice_index bytes.now 0 ≤ 5) }
 {
     match bytes {
         [1, ..] => Ok((

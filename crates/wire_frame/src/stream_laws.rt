@@ -5,8 +5,10 @@ ghost use Rattle.wire_frame.specs.Cut.{Cut, IsCutting, past};
 
 /// A stream has one list of items, and one rest.
 pub fn splits_once()
-    ensures items { (stream : List ℕ) (items : List (List ℕ)) (rest : List ℕ) → Splits stream items rest → items ≡ items_of stream }
-    ensures rest { (stream : List ℕ) (items : List (List ℕ)) (one other : List ℕ) → Splits stream items one → Splits stream items other → one ≡ other }
+    ensures items { (stream : List ℕ) (items : List (List ℕ)) (rest : List ℕ) →
+        Splits stream items rest → items ≡ items_of stream }
+    ensures rest { (stream : List ℕ) (items : List (List ℕ)) (one other : List ℕ) →
+        Splits stream items one → Splits stream items other → one ≡ other }
 {}
 
 /// Every list of bytes is a stream of items with a rest.
