@@ -10,7 +10,7 @@ use Rattle.svc_value.specs.declared.value.Value.{Value}
 use Rattle.settle_core.specs.declared.node.Node.{Node}
 use Rattle.settle_core.specs.Sent.{sent_at}
 use Rattle.settle_core.specs.Turn.{Holds}
-use Rattle.settle_core.specs.Node.{IsPlain, IsServed, sends, defined_by, did, sents, Fits, FitsBy}
+use Rattle.settle_core.specs.Node.{IsPlain, HasFewMembers, sends, defined_by, did, sents, Fits, FitsBy}
 use Rattle.settle_core.specs.Steps.{after_change, EachFits}
 use Rattle.settle_core.specs.Network.{definitions, presents}
 
@@ -115,11 +115,11 @@ change-stays (node ∷ nodes) (suc n) change (suc p) k value e = change-stays no
 did-fits : (S : List (List Value)) (node : Node) (change : Change) → IsPlain change → Fits S node → Fits S (did node change)
 did-fits S node change plain fits = go (brought node.definition change) (served node.definition change plain)
   where
-    EachIsServed : List Definition → Type 0
-    EachIsServed [] = Unit {0}
-    EachIsServed (d ∷ ds) = IsServed d × EachIsServed ds
+    EachHasFew : List Definition → Type 0
+    EachHasFew [] = Unit {0}
+    EachHasFew (d ∷ ds) = HasFewMembers d × EachHasFew ds
 
-    served : (o : Option Definition) (c : Change) → IsPlain c → EachIsServed (brought o c)
+    served : (o : Option Definition) (c : Change) → IsPlain c → EachHasFew (brought o c)
     served None (Birth first) h = (h, tt)
     served None (Set value) h = tt
     served None (Add member) h = absurd h
@@ -131,7 +131,7 @@ did-fits S node change plain fits = go (brought node.definition change) (served 
     served (Some last) (Drop member) h = absurd h
     served (Some last) (Define formula) h = absurd h
 
-    go : (ds : List Definition) → EachIsServed ds → Fits S (defined_by node ds)
+    go : (ds : List Definition) → EachHasFew ds → Fits S (defined_by node ds)
     go [] h = fits
     go (Input value ∷ ds) h = last-append node.sent value
     go (Derived formula ∷ ds) h = (h.0, λ turned is. absurd (cc is))

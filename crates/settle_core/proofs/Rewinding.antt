@@ -56,7 +56,7 @@ clocks_within (row ∷ rows) = (omega arith, clocks_within rows)
 
 -- ---- one step of a loop
 
-drop-next : {A : Type 0} (xs : List A) (i : ℕ) (x : A) → i < length xs → x ≡ get_or xs i x → drop i xs ≡ x ∷ drop (suc i) xs
+pub drop-next : {A : Type 0} (xs : List A) (i : ℕ) (x : A) → i < length xs → x ≡ get_or xs i x → drop i xs ≡ x ∷ drop (suc i) xs
 drop-next [] i x less at = absurd (omega arith)
 drop-next (y ∷ ys) zero x less at = ap (λ z. z ∷ ys) (sym at)
 drop-next (y ∷ ys) (suc i) x less at = drop-next ys i x (omega arith) at

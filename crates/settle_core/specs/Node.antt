@@ -11,14 +11,14 @@ use Rattle.svc_graph.specs.declared.definition.Definition.TheVariants.{Input, De
 use Rattle.svc_graph.specs.History.{brought}
 use Rattle.svc_value.specs.declared.value.Value.{Value}
 
--- the service may go on by this definition: it has at most 16 members
-abbrev pub IsServed : Definition → Type 0
-IsServed (Input value) = Unit {0}
-IsServed (Derived formula) = length formula.members ≤ 16
+-- the definition has at most 16 members
+abbrev pub HasFewMembers : Definition → Type 0
+HasFewMembers (Input value) = Unit {0}
+HasFewMembers (Derived formula) = length formula.members ≤ 16
 
 -- the change is a birth or another value: what this network does
 abbrev pub IsPlain : Change → Type 0
-IsPlain (Birth first) = IsServed first
+IsPlain (Birth first) = HasFewMembers first
 IsPlain (Set value) = Unit {0}
 IsPlain change = ⊥
 

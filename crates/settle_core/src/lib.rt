@@ -7,6 +7,8 @@ mod network;
 mod node;
 mod opening;
 mod steps;
+#[cfg(test)]
+mod tests;
 mod turn;
 
 pub use network::Network;
