@@ -4,7 +4,6 @@ use lib.IntN.{neg_ℤ}
 use Rattle.std.specs.Int.{w64}
 use Rattle.std.specs.Str.{all_ascii_digits}
 use Rattle.svc_value.specs.declared.inside.Form.{Form}
-use Rattle.svc_value.specs.declared.inside.Form.TheVariants.{Any}
 use Rattle.svc_value.specs.declared.literal.LiteralError.{LiteralError}
 use Rattle.svc_value.specs.declared.literal.LiteralError.TheVariants as error
 use Rattle.svc_value.specs.declared.value.Value.{Value}
@@ -12,7 +11,7 @@ use Rattle.svc_value.specs.declared.value.Value.TheVariants.{Int, Words, Bad}
 use Rattle.svc_value.specs.Layout.{IsWithin}
 use Rattle.svc_value.specs.Prefix.{IsRefusedAt}
 use Rattle.svc_value.specs.Printed.{printed}
-use Rattle.svc_value.specs.Quoted.{IsQuoted}
+use Rattle.svc_value.specs.Quoted.{IsQuoted, any_form}
 
 -- the number that decimal digits spell, behind the number so far
 abbrev pub number_from : ℕ → List ℕ → ℕ
@@ -32,7 +31,7 @@ IsSigned bytes number = ((n : ℕ) × IsNumber bytes n × (number ≡ pos n)) �
 -- a literal: a number of 64 bits, or a quoted text
 abbrev pub IsLiteral : List ℕ → Value → Type 0
 IsLiteral bytes (Int number) = IsSigned bytes number × FitsSigned w64 number
-IsLiteral bytes (Words text) = IsQuoted Any bytes text []
+IsLiteral bytes (Words text) = IsQuoted any_form bytes text []
 IsLiteral bytes (Bad fault) = ⊥
 
 -- the bytes are some literal

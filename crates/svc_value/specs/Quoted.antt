@@ -7,6 +7,10 @@ use Rattle.svc_value.specs.declared.inside.Form.{Form}
 use Rattle.svc_value.specs.declared.inside.Form.TheVariants.{Any, Printed}
 use Rattle.svc_value.specs.Printed.{is_escaped}
 
+-- every form of a literal; the other form is that of printing
+abbrev pub any_form : Form
+any_form = Any
+
 -- any byte but `"`, `\` and LF stands for itself; where only printed forms are read, any that printing does not escape
 abbrev pub is_itself : Form → ℕ → Bool
 is_itself Any byte = not (byte == 34 || byte == 92 || byte == 10)
