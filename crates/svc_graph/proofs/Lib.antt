@@ -2,6 +2,7 @@ pub mod Accepted
 pub mod Apart
 pub mod Books
 pub mod Changed
+pub mod Forming
 pub mod Keeping
 pub mod Lists
 pub mod Naming

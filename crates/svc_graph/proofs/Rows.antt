@@ -114,8 +114,8 @@ pub AreColumns-push : {names : List (List ℕ)} {kinds : List Kind} {histories :
     IsBook (rows_of names kinds histories ++ declared_row name kind.rank kind.ty ∷ []) → AreColumns (names ++ name ∷ []) (kinds ++ kind ∷ []) (histories ++ [] ∷ [])
 AreColumns-push {names} {kinds} {histories} h name kind book =
     record {
-      kinds_len = rw length-append (rw length-append (omega (arith, h.kinds_len)));
-      histories_len = rw length-append (rw length-append (omega (arith, h.histories_len)));
+      kinds_len = omega (arith, h.kinds_len, length-append kinds (kind ∷ []), length-append names (name ∷ []));
+      histories_len = omega (arith, h.histories_len, length-append histories ([] ∷ []), length-append names (name ∷ []));
       book = rw (rows_of-push names kinds histories name kind h.kinds_len h.histories_len) book;
     }
 

@@ -10,6 +10,8 @@ mod errors;
 mod history;
 mod kind;
 mod lent;
+#[cfg(test)]
+mod tests;
 
 pub use book::{Book, MOST_SERVICES};
 pub use definition::{Change, Definition, Formula};
