@@ -21,6 +21,8 @@ mod quoting;
 mod reading;
 mod refusing;
 mod small;
+#[cfg(test)]
+mod tests;
 mod texts;
 mod types;
 

@@ -1,5 +1,6 @@
 // Members: the first fault among them, and else their sum, the least or the greatest of them.
 ghost use Rattle.std.specs.Prelude.{◌≡◌, ◌≤◌, length};
+ghost use Rattle.std.specs.Option.{option_map_or};
 ghost use Rattle.svc_expr.specs.Meaning.{exact, first_fault, greatest, least, numbers_in, of_members, total};
 
 use crate::numbers::fitted;
@@ -40,6 +41,13 @@ pub(crate) fn sum_of(members: &[Value]) -> Value
     }
 }
 
+// The number that was found, or `empty` where there is none.
+fn found_or_empty(found: Option<i64>) -> Value
+    ensures { result ≡ option_map_or Value.Int found (Value.Bad Fault.Empty) }
+{
+    found.map_or(Value::Bad(Fault::Empty), Value::Int)
+}
+
 /// The first fault among the members, or the least of them, or `empty` where there is none.
 pub(crate) fn least_of(members: &[Value]) -> Value
     ensures { result ≡ of_members least members.now }
@@ -52,7 +60,7 @@ pub(crate) fn least_of(members: &[Value]) -> Value
             Value::Bad(fault) => return Value::Bad(*fault),
         }
     }
-    found.map_or(Value::Bad(Fault::Empty), Value::Int)
+    found_or_empty(found)
 }
 
 /// The first fault among the members, or the greatest of them, or `empty` where there is none.
@@ -70,5 +78,5 @@ pub(crate) fn greatest_of(members: &[Value]) -> Value
             Value::Bad(fault) => return Value::Bad(*fault),
         }
     }
-    found.map_or(Value::Bad(Fault::Empty), Value::Int)
+    found_or_empty(found)
 }
