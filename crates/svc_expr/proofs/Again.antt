@@ -1,5 +1,5 @@
 -- What is printed is read again.
-use Rattle.std.proofs.Common.{◌≡◌, ℕ, ◌≤◌, ◌*◌, Bool, true, false, List, [], ◌∷◌, ◌++◌, map, All, append_assoc, refl, sym, ap, subst, ◌∙◌, arith}
+use Rattle.std.proofs.Common.{◌≡◌, ℕ, ◌≤◌, ◌*◌, Bool, true, false, List, [], ◌∷◌, ◌++◌, map, All, append_assoc, refl, sym, ap, subst, ◌∙◌, arith, length, Result, Ok, Err, OnOk}
 use Rattle.std.specs.Prelude.{pos, negsuc}
 use Rattle.std.proofs.lemmas.List.{append-nil, map-append}
 use Rattle.std.proofs.lemmas.List.Elements.{All-get_or}
@@ -10,8 +10,8 @@ use Rattle.svc_token.specs.Word.{IsName}
 use Rattle.svc_expr.specs.declared.expr.Op.{Op}
 use Rattle.svc_expr.specs.declared.expr.Op.TheVariants as op
 use Rattle.svc_expr.specs.Tree.{Tree, number, words, given, negated, denied, pair, choice, len_of, number_of, text_of, sum_of_members, count_of_members, least_member, greatest_member, depth, IsSmall}
-use Rattle.svc_expr.specs.Types.{mentions}
-use Rattle.svc_expr.specs.Canonical.{has_bracket, name_at, canonical_text, IsWritable, IsInOrder}
+use Rattle.svc_expr.specs.Types.{mentions, name_count}
+use Rattle.svc_expr.specs.Canonical.{has_bracket, name_at, canonical_text, IsWritable, IsWithin, IsInOrder}
 use Rattle.svc_expr.specs.Grammar.{with_names, names_among, IsReading}
 use Rattle.svc_expr.proofs.NameLemmas.{Names, Apart, apart}
 use Rattle.svc_expr.proofs.Spelled.{sign_of, in_brackets_if, canon, room, to_whole, spells}
@@ -74,9 +74,28 @@ text_room : (b : Bool) (n : ℕ) → n ≤ 32 → 2 * n ≤ room b 64
 text_room true n h = omega arith
 text_room false n h = omega arith
 
+-- a tree within the limits of its leaves can be written with as many names as it counts
+writable : (names : Names) (e : Tree) → name_count e ≤ length names → IsWithin e → IsWritable names e
+writable names (number (pos n)) h w = omega (arith, w.sfits)
+writable names (number (negsuc n)) h w = omega (arith, w.sfits)
+writable names (words text) h w = w
+writable names (given k) h w = omega arith
+writable names (negated a) h w = writable names a h w
+writable names (denied a) h w = writable names a h w
+writable names (pair o a b) h w = (writable names a (omega arith) w.0, writable names b (omega arith) w.1)
+writable names (choice c a b) h w = (writable names c (omega arith) w.0, writable names a (omega arith) w.1, writable names b (omega arith) w.2)
+writable names (len_of a) h w = writable names a h w
+writable names (number_of a) h w = writable names a h w
+writable names (text_of a) h w = writable names a h w
+writable names sum_of_members h w = tt
+writable names count_of_members h w = tt
+writable names least_member h w = tt
+writable names greatest_member h w = tt
+
 -- the canonical text is read as the tree and its names
-pub read_again : (names : Names) (e : Tree) → All IsName names → IsInOrder names e → IsWritable names e → IsSmall e → IsReading (canonical_text names e) e names
-read_again names e are order w small =
+pub read_again : (names : Names) (e : Tree) → All IsName names → name_count e ≤ length names → IsInOrder names e → IsWithin e → IsSmall e → IsReading (canonical_text names e) e names
+read_again names e are count order within small =
+    let w = writable names e count within in
     let each : Apart names = subst Apart order (apart [] (map (name_at names) (mentions e)) (λ k l. absurd (omega arith))) in (
       canon names e [],
       written names e (λ k l. All-get_or IsName names k [] l are) w,
@@ -85,3 +104,8 @@ read_again names e are order w small =
         to_whole names each (spells names each e 64 [] w (text_room (has_bracket e) (depth e) small.1)),
       ),
     )
+
+-- what follows from a fact on success
+pub on_ok : {T E : Type 0} → (r : Result T E) (P Q : Type 0) → (P → Q) → OnOk r P → OnOk r Q
+on_ok (Ok x) P Q f h = f h
+on_ok (Err e) P Q f h = tt

@@ -1,5 +1,6 @@
 -- The canonical text of an expression.
-use Rattle.std.specs.Prelude.{◌≡◌, ℕ, ◌<◌, ◌≤◌, ◌^◌, pos, negsuc, Bool, true, false, List, [], ◌++◌, length, map, codes, slice_index_or}
+use Rattle.std.specs.Int.{w64}
+use Rattle.std.specs.Prelude.{FitsSigned, ◌≡◌, ℕ, ◌<◌, ◌≤◌, ◌^◌, pos, negsuc, Bool, true, false, List, [], ◌++◌, length, map, codes, slice_index_or}
 use Rattle.std.specs.Str.{IsUtf8}
 use Rattle.std.specs.Fmt.{signed_decimal}
 use Rattle.svc_value.specs.Printed.{quoted}
@@ -58,6 +59,19 @@ canonical_text names sum_of_members = codes "sum()"
 canonical_text names count_of_members = codes "count()"
 canonical_text names least_member = codes "min()"
 canonical_text names greatest_member = codes "max()"
+
+-- each number has 64 bits, and each text is UTF-8 of at most 256 bytes, as in every expression
+abbrev pub IsWithin : Tree → Type 0
+IsWithin (number z) = FitsSigned w64 z
+IsWithin (words text) = (length text ≤ 256) × IsUtf8 text
+IsWithin (negated a) = IsWithin a
+IsWithin (denied a) = IsWithin a
+IsWithin (pair op a b) = IsWithin a × IsWithin b
+IsWithin (choice c a b) = IsWithin c × IsWithin a × IsWithin b
+IsWithin (len_of a) = IsWithin a
+IsWithin (number_of a) = IsWithin a
+IsWithin (text_of a) = IsWithin a
+IsWithin leaf = Unit {0}
 
 -- the tree can be written: each number has 64 bits, each text is UTF-8 of at most 256 bytes, and each name has its number
 abbrev pub IsWritable : List (List ℕ) → Tree → Type 0

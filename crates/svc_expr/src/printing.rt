@@ -1,15 +1,16 @@
 // The canonical text of an expression.
 ghost use Rattle.std.specs.Prelude.{◌≡◌, ◌++◌, ◌≤◌, All, List, ℕ, codes, length, OnOk, OnErr};
 ghost use Rattle.std.specs.Io.{StartsWith};
+ghost use Rattle.std.specs.Str.{IsUtf8};
 ghost use Rattle.svc_value.specs.Printed.{quoted};
 ghost use Rattle.svc_token.specs.Word.{IsName};
-ghost use Rattle.svc_expr.specs.Canonical.{IsInOrder, IsWritable, sign_text, has_bracket, bracketed, name_at, canonical_text};
+ghost use Rattle.svc_expr.specs.Canonical.{IsInOrder, IsWithin, sign_text, has_bracket, bracketed, name_at, canonical_text};
 ghost use Rattle.svc_expr.specs.Grammar.{IsReading};
 ghost use Rattle.svc_expr.specs.Tree.{IsSmall, Tree, tree_of};
 ghost use Rattle.svc_expr.specs.Types.{name_count};
 
 use crate::{Expr, ExprKind, Op};
-use svc_value::{Name, Names, OutOfMemory, Value, ValueText, print_value};
+use svc_value::{LONGEST_TEXT, Name, Names, OutOfMemory, Value, ValueText, print_value};
 
 fn sign_text(op: Op) -> &'static str
     ensures { result.now ≡ sign_text op }
@@ -62,7 +63,9 @@ fn push(text: &str, out: &mut Vec<u8>) -> Result<(), OutOfMemory>
 fn push_words(text: &ValueText, out: &mut Vec<u8>) -> Result<(), OutOfMemory>
     ensures ok { OnOk result (out.new.items ≡ out.old.items ++ quoted text.now) }
     ensures err { OnErr result (out.new.items ≡ out.old.items) }
+    ensures within { (length text.now ≤ 256) × IsUtf8 text.now }
 {
+    prove!(text.as_str().len() <= LONGEST_TEXT);
     let value = Value::Words(text.copy()?);
     print_value(&value, out)
 }
@@ -84,6 +87,7 @@ fn push_name(names: &[Name], place: u8, out: &mut Vec<u8>) -> Result<(), OutOfMe
 #[cycle(printing)]
 fn append_bracketed(expr: &Expr, names: &[Name], out: &mut Vec<u8>) -> Result<(), OutOfMemory>
     ensures ok { OnOk result (out.new.items ≡ out.old.items ++ bracketed (has_bracket (tree_of expr.now)) (canonical_text names.now (tree_of expr.now))) }
+    ensures within { OnOk result (IsWithin (tree_of expr.now)) }
     ensures kept { StartsWith out.new.items out.old.items }
 {
     if has_bracket(expr) {
@@ -102,6 +106,7 @@ fn append_call(
     out: &mut Vec<u8>,
 ) -> Result<(), OutOfMemory>
     ensures ok { OnOk result (out.new.items ≡ out.old.items ++ (opening.now ++ canonical_text names.now (tree_of a.now) ++ codes ")")) }
+    ensures within { OnOk result (IsWithin (tree_of a.now)) }
     ensures kept { StartsWith out.new.items out.old.items }
 {
     push(opening, out)?;
@@ -112,6 +117,7 @@ fn append_call(
 #[tactic(auto, using(crate::proofs::PrintLemmas::kept_behind, crate::proofs::PrintLemmas::kept_same))]
 fn append_negated(a: &Expr, names: &[Name], out: &mut Vec<u8>) -> Result<(), OutOfMemory>
     ensures ok { OnOk result (out.new.items ≡ out.old.items ++ (codes "-" ++ bracketed (has_bracket (tree_of a.now)) (canonical_text names.now (tree_of a.now)))) }
+    ensures within { OnOk result (IsWithin (tree_of a.now)) }
     ensures kept { StartsWith out.new.items out.old.items }
 {
     push("-", out)?;
@@ -122,6 +128,7 @@ fn append_negated(a: &Expr, names: &[Name], out: &mut Vec<u8>) -> Result<(), Out
 #[tactic(auto, using(crate::proofs::PrintLemmas::kept_behind, crate::proofs::PrintLemmas::kept_same))]
 fn append_denied(a: &Expr, names: &[Name], out: &mut Vec<u8>) -> Result<(), OutOfMemory>
     ensures ok { OnOk result (out.new.items ≡ out.old.items ++ (codes "(not " ++ bracketed (has_bracket (tree_of a.now)) (canonical_text names.now (tree_of a.now)) ++ codes ")")) }
+    ensures within { OnOk result (IsWithin (tree_of a.now)) }
     ensures kept { StartsWith out.new.items out.old.items }
 {
     push("(not ", out)?;
@@ -134,6 +141,7 @@ fn append_denied(a: &Expr, names: &[Name], out: &mut Vec<u8>) -> Result<(), OutO
 #[tactic(auto, using(crate::proofs::PrintLemmas::kept_behind, crate::proofs::PrintLemmas::kept_same))]
 fn append_then(a: &Expr, text: &str, names: &[Name], out: &mut Vec<u8>) -> Result<(), OutOfMemory>
     ensures ok { OnOk result (out.new.items ≡ out.old.items ++ (canonical_text names.now (tree_of a.now) ++ text.now)) }
+    ensures within { OnOk result (IsWithin (tree_of a.now)) }
     ensures kept { StartsWith out.new.items out.old.items }
 {
     append(a, names, out)?;
@@ -151,6 +159,7 @@ fn append_two(
     out: &mut Vec<u8>,
 ) -> Result<(), OutOfMemory>
     ensures ok { OnOk result (out.new.items ≡ out.old.items ++ (canonical_text names.now (tree_of a.now) ++ text.now ++ canonical_text names.now (tree_of b.now) ++ codes ")")) }
+    ensures within { OnOk result (IsWithin (tree_of a.now) × IsWithin (tree_of b.now)) }
     ensures kept { StartsWith out.new.items out.old.items }
 {
     append_then(a, text, names, out)?;
@@ -167,6 +176,7 @@ fn append_pair(
     out: &mut Vec<u8>,
 ) -> Result<(), OutOfMemory>
     ensures ok { OnOk result (out.new.items ≡ out.old.items ++ (codes "(" ++ canonical_text names.now (tree_of a.now) ++ sign_text op ++ canonical_text names.now (tree_of b.now) ++ codes ")")) }
+    ensures within { OnOk result (IsWithin (tree_of a.now) × IsWithin (tree_of b.now)) }
     ensures kept { StartsWith out.new.items out.old.items }
 {
     push("(", out)?;
@@ -183,6 +193,7 @@ fn append_choice(
     out: &mut Vec<u8>,
 ) -> Result<(), OutOfMemory>
     ensures ok { OnOk result (out.new.items ≡ out.old.items ++ (codes "(if " ++ canonical_text names.now (tree_of c.now) ++ codes " then " ++ canonical_text names.now (tree_of a.now) ++ codes " else " ++ canonical_text names.now (tree_of b.now) ++ codes ")")) }
+    ensures within { OnOk result (IsWithin (tree_of c.now) × IsWithin (tree_of a.now) × IsWithin (tree_of b.now)) }
     ensures kept { StartsWith out.new.items out.old.items }
 {
     push("(if ", out)?;
@@ -195,6 +206,7 @@ fn append_choice(
 #[tactic(auto, using(crate::proofs::PrintLemmas::kept_behind, crate::proofs::PrintLemmas::kept_same), unfolding(crate::specs::Canonical::canonical_text))]
 fn append(expr: &Expr, names: &[Name], out: &mut Vec<u8>) -> Result<(), OutOfMemory>
     ensures ok { OnOk result (out.new.items ≡ out.old.items ++ canonical_text names.now (tree_of expr.now)) }
+    ensures within { OnOk result (IsWithin (tree_of expr.now)) }
     ensures kept { StartsWith out.new.items out.old.items }
 {
     match expr.kind.get() {
@@ -220,6 +232,7 @@ fn append(expr: &Expr, names: &[Name], out: &mut Vec<u8>) -> Result<(), OutOfMem
 pub fn print_expr(expr: &Expr, names: &Names, out: &mut Vec<u8>) -> Result<(), OutOfMemory>
     requires { name_count (tree_of expr.now) ≤ length names.now }
     ensures ok { OnOk result (out.new.items ≡ out.old.items ++ canonical_text names.now (tree_of expr.now)) }
+    ensures again { OnOk result (All IsName names.now → IsInOrder names.now (tree_of expr.now) → IsSmall (tree_of expr.now) → IsReading (canonical_text names.now (tree_of expr.now)) (tree_of expr.now) names.now) }
     ensures err { OnErr result (out.new.items ≡ out.old.items) }
 {
     let start = out.len();
@@ -233,5 +246,5 @@ pub fn print_expr(expr: &Expr, names: &Names, out: &mut Vec<u8>) -> Result<(), O
 /// The canonical text of a tree within the limits is read as that tree with the same names, where the names stand in the order
 /// of first mention.
 pub fn read_again()
-    ensures { (names : List (List ℕ)) (e : Tree) → All IsName names → IsInOrder names e → IsWritable names e → IsSmall e → IsReading (canonical_text names e) e names }
+    ensures { (names : List (List ℕ)) (e : Tree) → All IsName names → name_count e ≤ length names → IsInOrder names e → IsWithin e → IsSmall e → IsReading (canonical_text names e) e names }
 {}
