@@ -9,6 +9,7 @@ mod evaluation;
 mod expr;
 mod expression;
 mod gathering;
+mod leaves;
 mod level;
 mod members;
 mod names;

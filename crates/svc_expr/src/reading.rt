@@ -1,14 +1,13 @@
 // Reading tokens from left to right: one function for each kind of level.
 ghost use Rattle.std.specs.Prelude.{◌≡◌, Option, Some, None};
 ghost use Rattle.svc_expr.specs.Grammar.{tighter, IsLeft, call_of, aggregate_of};
-ghost use Rattle.svc_expr.specs.Reading.{naming, inner, operand_at, call_at, called_at, aggregate_at, negative_at, words_at, unary_at, level_at, compared_at, comparison_at, denial_at, else_at, then_at, whole_at};
-ghost use Rattle.svc_expr.specs.Quoted.{unquoted};
+ghost use Rattle.svc_expr.specs.Reading.{naming, inner, operand_at, call_at, called_at, unary_at, level_at, compared_at, comparison_at, denial_at, else_at, then_at, whole_at};
 ghost use Rattle.svc_expr.specs.Small.{fit, part_of, Gives};
 
+use crate::leaves::{behind_dash, member_call, quoted};
 use crate::level::{Form, Level};
-use crate::operators::{aggregate_of, call_of, joins, place_of};
-use crate::parts::{aggregate, choice, form, name, negative, pair, positive, text};
-use crate::quoting::unquote;
+use crate::operators::{call_of, joins, place_of};
+use crate::parts::{choice, form, name, pair, positive};
 use crate::small::{ReadError, Small};
 use std::alloc::Global;
 use svc_token::{Keyword, Token};
@@ -88,36 +87,6 @@ fn operand<'a, 't>(
     }
 }
 
-// The number that `-` makes negative.
-fn behind_dash<'a, 't>(
-    alloc: Global,
-    rest: &'a [Token<'t>],
-) -> Result<(Option<Small>, &'a [Token<'t>]), ReadError>
-    ensures { Gives (λ x. (part_of x.0, x.1.now)) result (negative_at fit rest.now) }
-{
-    let [first, after @ ..] = rest else {
-        return Err(ReadError::Bad);
-    };
-    match first {
-        Token::Number(n) => Ok((negative(alloc, *n)?, after)),
-        _ => Err(ReadError::Bad),
-    }
-}
-
-// The text that a quoted text means.
-fn quoted<'a, 't>(
-    alloc: Global,
-    raw: &[u8],
-    rest: &'a [Token<'t>],
-) -> Result<(Option<Small>, &'a [Token<'t>]), ReadError>
-    ensures { Gives (λ x. (part_of x.0, x.1.now)) result (words_at fit (unquoted raw.now) rest.now) }
-{
-    match unquote(alloc, raw)? {
-        Some(words) => Ok((text(alloc, words)?, rest)),
-        None => Err(ReadError::Bad),
-    }
-}
-
 // A call behind the keyword that names it.
 #[cycle(reader)]
 fn call<'a, 't>(
@@ -152,27 +121,6 @@ fn called<'a, 't>(
     let (part, rest) = enter(alloc, names, Level::Whole, room, rest)?;
     match rest {
         [Token::Close, after @ ..] => Ok((form(alloc, call, part)?, after)),
-        _ => Err(ReadError::Bad),
-    }
-}
-
-// A call over the members behind its bracket, where a level of the text is left for it.
-fn member_call<'a, 't>(
-    alloc: Global,
-    keyword: Keyword,
-    has_room: bool,
-    rest: &'a [Token<'t>],
-) -> Result<(Option<Small>, &'a [Token<'t>]), ReadError>
-    ensures { Gives (λ x. (part_of x.0, x.1.now)) result (aggregate_at fit has_room (aggregate_of keyword) rest.now) }
-{
-    if !has_room {
-        return Err(ReadError::Bad);
-    }
-    let Some(call) = aggregate_of(keyword) else {
-        return Err(ReadError::Bad);
-    };
-    match rest {
-        [Token::Close, after @ ..] => Ok((aggregate(alloc, call)?, after)),
         _ => Err(ReadError::Bad),
     }
 }
