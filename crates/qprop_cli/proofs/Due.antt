@@ -1,0 +1,53 @@
+-- What was added is a beginning of the text due, and at the end all of it.
+use Rattle.std.proofs.Common.{sym, subst, ℕ, ◌≤◌, inl, inr, arith, List, [], length, Option, None, Some}
+use Rattle.settle_core.specs.Settling.{Settling}
+use Rattle.svc_text.specs.declared.plan.Leg.{Leg}
+use Rattle.svc_text.specs.declared.plan.Mode.TheVariants as mode
+use Rattle.svc_text.specs.declared.refusal.Refusal.{Refusal}
+use Rattle.svc_text.specs.Document.{HasLegs, IsRefusal}
+use Rattle.svc_text.specs.Rows.{AreLegsAfter}
+use Rattle.trace_text.specs.Settled.{Settles}
+use Rattle.trace_text.proofs.Untracing.{settled_is_untraced}
+use Rattle.qprop_cli.specs.declared.command.Command.TheVariants.{Step}
+use Rattle.qprop_cli.specs.Outcome.{SettledOutput, IsDue, AddsDue}
+use Rattle.qprop_cli.specs.Refusals.{refusal_line}
+use Rattle.qprop_cli.specs.Run.{AddsSettled, AddsBlocks, HasDone}
+use Rattle.qprop_cli.specs.Streams.{ReadsWhole, ReadsUpTo, AddsBeginning}
+use Rattle.qprop_cli.specs.Words.{usage_line}
+
+module _ (left_old left_new held_old held_new : Option (List ℕ)) where
+  pub usage_due : AddsBeginning held_old held_new usage_line → AddsDue None left_old left_new held_old held_new
+  usage_due begun = record { text = usage_line; due = IsDue.usage; begun = begun }
+
+  pub refusal_due : (read : List ℕ) (refusal : Refusal) → ReadsUpTo 1048576 left_old left_new read → IsRefusal mode.Step read refusal →
+      AddsBeginning held_old held_new (refusal_line refusal) → AddsDue (Some Step) left_old left_new held_old held_new
+  refusal_due read refusal whole refused begun =
+      record { text = refusal_line refusal; due = IsDue.refusal (record { read = read; whole = whole; refused = refused }); begun = begun }
+
+  -- a document was read to its end
+  whole_read : (read : List ℕ) → length read ≤ 1048576 → ReadsUpTo 1048576 left_old left_new read → ReadsWhole left_old left_new read
+  whole_read read short (gone, inl end) = (gone, end)
+  whole_read read short (gone, inr long) = absurd (omega (arith, short, long))
+
+  pub blocks_due : (read : List ℕ) (legs : List Leg) → ReadsUpTo 1048576 left_old left_new read → HasLegs mode.Step read legs →
+      AddsBlocks held_old held_new legs → AddsDue (Some Step) left_old left_new held_old held_new
+  blocks_due read legs whole accepted added =
+      record {
+        text = added.text;
+        due = IsDue.blocks read added.run added.left (whole_read read accepted.1.short whole) (subst (λ l. HasLegs mode.Step read l) (sym added.all) accepted) added.settles;
+        begun = added.begun;
+      }
+
+  pub settled_output : (read : List ℕ) (legs : List Leg) (network : Settling) → ReadsUpTo 1048576 left_old left_new read → HasLegs mode.Step read legs →
+      AreLegsAfter [] legs → AddsSettled held_old held_new legs → HasDone legs network → SettledOutput left_old left_new held_old held_new (Some network)
+  settled_output read legs network whole accepted each run done =
+      record {
+        read = read;
+        whole = whole_read read accepted.1.short whole;
+        legs = legs;
+        accepted = accepted;
+        added = run.text;
+        gained = run.added;
+        settles = subst (λ t. Settles 0 [] legs t) (sym (settled_is_untraced 0 [] legs run.text tt each run.settles)) run.settles;
+        network_done = done;
+      }

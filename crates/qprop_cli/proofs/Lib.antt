@@ -1,0 +1,5 @@
+pub mod Due
+pub mod Legs
+pub mod Runs
+pub mod Values
+pub mod Writes

@@ -1,0 +1,6 @@
+pub mod Outcome
+pub mod Refusals
+pub mod Run
+pub mod Status
+pub mod Streams
+pub mod Words

@@ -1,0 +1,52 @@
+-- What a call has read and written when it ends.
+use Rattle.std.specs.Prelude.{ℕ, List, [], ◌++◌, Option, None, Some, IfSome}
+use Rattle.std.specs.Io.KnownBytes.{Appends}
+use Rattle.settle_core.specs.Settling.{Settling}
+use Rattle.svc_text.specs.declared.plan.Leg.{Leg}
+use Rattle.svc_text.specs.declared.plan.Mode.TheVariants as mode
+use Rattle.svc_text.specs.declared.refusal.Refusal.{Refusal}
+use Rattle.svc_text.specs.Document.{HasLegs, IsRefusal}
+use Rattle.trace_text.specs.Settled.{Settles}
+use Rattle.trace_text.specs.Untraced.{untraced}
+use Rattle.qprop_cli.specs.declared.command.Command.{Command}
+use Rattle.qprop_cli.specs.declared.command.Command.TheVariants.{Step}
+use Rattle.qprop_cli.specs.Refusals.{refusal_line}
+use Rattle.qprop_cli.specs.Run.{HasDone}
+use Rattle.qprop_cli.specs.Streams.{ReadsWhole, ReadsUpTo, AddsBeginning}
+use Rattle.qprop_cli.specs.Words.{usage_line}
+
+-- the source was read to its end, what it gave is a document with these legs, what was added is their settled text but for trace lines,
+-- and the network has done them
+pub record SettledOutput (left_old left_new held_old held_new : Option (List ℕ)) (network : Option Settling) : Type 0 where
+  pub read : List ℕ
+  pub whole : ReadsWhole left_old left_new read
+  pub legs : List Leg
+  pub accepted : HasLegs mode.Step read legs
+  pub added : List ℕ
+  pub gained : Appends held_old held_new added
+  pub settles : Settles 0 [] legs (untraced added)
+  pub network_done : IfSome network (λ n. HasDone legs n)
+
+-- what the source gave, to its end or one byte past the most of a document, is no accepted document and has this refusal
+pub record RefusesInput (left_old left_new : Option (List ℕ)) (refusal : Refusal) : Type 0 where
+  pub read : List ℕ
+  pub whole : ReadsUpTo 1048576 left_old left_new read
+  pub refused : IsRefusal mode.Step read refusal
+
+-- what the source gave is no accepted document, and the line of its refusal was added
+pub record RefusedOutput (left_old left_new held_old held_new : Option (List ℕ)) (refusal : Refusal) : Type 0 where
+  pub input : RefusesInput left_old left_new refusal
+  pub added : Appends held_old held_new (refusal_line refusal)
+
+-- the text that is due: the usage line where the words are no command, else the refusal line, or the blocks of the legs that were run
+pub data IsDue (left_old left_new : Option (List ℕ)) : Option Command → List ℕ → Type 0 where
+  usage : IsDue left_old left_new None usage_line
+  refusal : {refusal : Refusal} → RefusesInput left_old left_new refusal → IsDue left_old left_new (Some Step) (refusal_line refusal)
+  blocks : {text : List ℕ} (read : List ℕ) (run left : List Leg) → ReadsWhole left_old left_new read → HasLegs mode.Step read (run ++ left) → Settles 0 [] run text
+      → IsDue left_old left_new (Some Step) text
+
+-- what was added is a beginning of the text due
+pub record AddsDue (command : Option Command) (left_old left_new held_old held_new : Option (List ℕ)) : Type 0 where
+  pub text : List ℕ
+  pub due : IsDue left_old left_new command text
+  pub begun : AddsBeginning held_old held_new text

@@ -1,0 +1,64 @@
+// Reading a document.
+ghost use Rattle.std.specs.Prelude.{◌≤◌, IfOk, IsErrOf};
+ghost use Rattle.svc_value.specs.Causes.{Rose};
+ghost use Rattle.qprop_cli.specs.Streams.{ReadsUpTo};
+
+use std::alloc::{AllocError, Global};
+use svc_value::{Failed, Source};
+
+/// The most bytes that a document has.
+pub const LONGEST_DOCUMENT: usize = 1_048_576;
+
+// How many bytes one read asks for.
+const CHUNK: usize = 8192;
+
+/// Why a document was not read.
+#[derive(Clone, Copy, Debug, PartialEq, Eq)]
+pub(crate) enum ReadError {
+    /// The source failed.
+    Fault,
+    /// Want of memory.
+    OutOfMemory,
+}
+
+impl From<AllocError> for ReadError {
+    ghost use Rattle.qprop_cli.specs.declared.reading.ReadError.TheVariants.{OutOfMemory};
+    ghost use Rattle.std.specs.Prelude.{◌≡◌};
+
+    ghost from_gives = { λ _ e. e ≡ OutOfMemory };
+
+    fn from(_: AllocError) -> Self {
+        ReadError::OutOfMemory
+    }
+}
+
+impl From<Failed> for ReadError {
+    ghost use Rattle.qprop_cli.specs.declared.reading.ReadError.TheVariants.{Fault};
+    ghost use Rattle.std.specs.Prelude.{◌≡◌};
+
+    ghost from_gives = { λ _ e. e ≡ Fault };
+
+    fn from(_: Failed) -> Self {
+        ReadError::Fault
+    }
+}
+
+/// All that the source has left, or its first 1,048,577 bytes where there are more than a document has. `Fault` only where
+/// the source's count of faults rose; `OutOfMemory` for want of memory. After both, bytes that were read are gone.
+pub(crate) fn read_all<S: Source>(alloc: Global, source: &mut S) -> Result<Vec<u8>, ReadError>
+    ensures read { IfOk result (λ bytes. ReadsUpTo 1048576 (S.left source.old) (S.left source.new) bytes.items) }
+    ensures later { S.faults source.old ≤ S.faults source.new }
+    ensures fault { IsErrOf result ReadError.Fault → Rose (S.faults source.old) (S.faults source.new) }
+{
+    let mut bytes = Vec::new(alloc);
+    let mut chunk = [0; CHUNK];
+    while bytes.len() <= LONGEST_DOCUMENT {
+        let wanted = CHUNK.min(LONGEST_DOCUMENT + 1 - bytes.len());
+        let count = source.read(&mut chunk[..wanted])?;
+        if count == 0 {
+            return Ok(bytes);
+        }
+        bytes.extend_from_slice(&chunk[..count])?;
+    }
+    Ok(bytes)
+}

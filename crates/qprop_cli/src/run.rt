@@ -1,0 +1,113 @@
+// Settling the legs of a document, one after another.
+ghost use Rattle.std.specs.Prelude.{◌≡◌, ◌≤◌, ◌⊎◌, [], true, length, IfOk, OnOk, OnErr, IsErrOf};
+ghost use Rattle.std.specs.Io.KnownBytes.{Keeps};
+ghost use Rattle.settle_core.specs.Settling.{IsSettled};
+ghost use Rattle.svc_text.specs.Rows.{rows_after, IsLegAfter, AreLegsAfter};
+ghost use Rattle.svc_value.specs.Causes.{Rose};
+ghost use Rattle.qprop_cli.specs.Run.{IsBlock, AddsBlock, BeginsBlock, AddsSettled, AddsBlocks, HasDone};
+
+use crate::writing::write_all;
+use settle_core::Network;
+use std::alloc::Global;
+use svc_text::Leg;
+use svc_value::{Failed, OutOfMemory, Sink};
+use trace_text::settled_text;
+
+/// Why a run of legs stopped.
+#[derive(Clone, Copy, Debug, PartialEq, Eq)]
+pub(crate) enum Stop {
+    /// The sink failed.
+    Fault,
+    /// Want of memory.
+    OutOfMemory,
+}
+
+impl From<OutOfMemory> for Stop {
+    ghost use Rattle.qprop_cli.specs.declared.run.Stop.TheVariants.{OutOfMemory as NoMemory};
+    ghost use Rattle.std.specs.Prelude.{◌≡◌};
+
+    ghost from_gives = { λ _ e. e ≡ NoMemory };
+
+    fn from(_: OutOfMemory) -> Self {
+        Stop::OutOfMemory
+    }
+}
+
+impl From<Failed> for Stop {
+    ghost use Rattle.qprop_cli.specs.declared.run.Stop.TheVariants.{Fault};
+    ghost use Rattle.std.specs.Prelude.{◌≡◌};
+
+    ghost from_gives = { λ _ e. e ≡ Fault };
+
+    fn from(_: Failed) -> Self {
+        Stop::Fault
+    }
+}
+
+/// Settles the leg number `k`, from 1, and puts its block in place of `text`.
+#[tactic(auto, using(crate::proofs::Values::values_length))]
+fn settle_leg(
+    network: &mut Network,
+    k: u32,
+    leg: &Leg,
+    text: &mut Vec<u8>,
+) -> Result<(), OutOfMemory>
+    requires quiet { network.old.quiet ≡ true }
+    requires leg { IsLegAfter network.old.rows leg.now }
+    ensures rows { OnOk result (network.new.rows ≡ rows_after network.old.rows leg.now) }
+    ensures quiet { OnOk result (network.new.quiet ≡ true) }
+    ensures settled { OnOk result (IsSettled network.new) }
+    ensures block { OnOk result (IsBlock k (rows_after network.old.rows leg.now) text.new.items) }
+{
+    network.open_leg(leg)?;
+    network.drain()?;
+    let values = network.values()?;
+    text.clear();
+    settled_text(k, network.book(), &values, text)
+}
+
+/// Settles the leg number `k`, and writes its block. The sink gains nothing before the block is whole.
+fn write_leg<K: Sink>(
+    network: &mut Network,
+    k: u32,
+    leg: &Leg,
+    text: &mut Vec<u8>,
+    sink: &mut K,
+) -> Result<(), Stop>
+    requires quiet { network.old.quiet ≡ true }
+    requires leg { IsLegAfter network.old.rows leg.now }
+    ensures rows { OnOk result (network.new.rows ≡ rows_after network.old.rows leg.now) }
+    ensures quiet { OnOk result (network.new.quiet ≡ true) }
+    ensures settled { OnOk result (IsSettled network.new) }
+    ensures added { OnOk result (AddsBlock (K.held sink.old) (K.held sink.new) k (rows_after network.old.rows leg.now)) }
+    ensures begun { OnErr result ((Keeps (K.held sink.old) (K.held sink.new)) ⊎ BeginsBlock (K.held sink.old) (K.held sink.new) k (rows_after network.old.rows leg.now)) }
+    ensures later { K.faults sink.old ≤ K.faults sink.new }
+    ensures fault { IsErrOf result Stop.Fault → Rose (K.faults sink.old) (K.faults sink.new) }
+{
+    settle_leg(network, k, leg, text)?;
+    write_all(sink, text)?;
+    Ok(())
+}
+
+/// Settles the legs, from the first one of a document on, and writes the block of each after it. What was written when it stops is
+/// a beginning of the blocks of the legs that were run.
+pub(crate) fn settle_legs<K: Sink>(
+    alloc: Global,
+    legs: &[Leg],
+    sink: &mut K,
+) -> Result<Network, Stop>
+    requires legs { AreLegsAfter [] legs.now }
+    requires few { length legs.now ≤ 1000 }
+    ensures settled { OnOk result (AddsSettled (K.held sink.old) (K.held sink.new) legs.now) }
+    ensures network { IfOk result (λ network. HasDone legs.now network) }
+    ensures begun { OnErr result (AddsBlocks (K.held sink.old) (K.held sink.new) legs.now) }
+    ensures later { K.faults sink.old ≤ K.faults sink.new }
+    ensures fault { IsErrOf result Stop.Fault → Rose (K.faults sink.old) (K.faults sink.new) }
+{
+    let mut network = Network::new(alloc);
+    let mut text = Vec::new(alloc);
+    for i in 0..legs.len() {
+        write_leg(&mut network, i as u32 + 1, &legs[i], &mut text, sink)?;
+    }
+    Ok(network)
+}
