@@ -13,13 +13,9 @@ pub(crate) fn raise_tops<L: Ledger>(tops: &mut Floor, stamps: &Stamps, looks: &m
     ensures raised { tops.new ≡ raise tops.old stamps.now }
     ensures looks { looks.new ≡ looks.old + length stamps.now }
 {
-    let mut start = 0;
-    let mut place = 0;
-    while let Some(key) = stamps.next_key(start) {
+    for (key, clock) in stamps.iter() {
         looks.tick();
-        tops.raise_one(key, stamps.clock_at(place));
-        start = key.0 + 1;
-        place += 1;
+        tops.raise_one(key, clock);
     }
 }
 
@@ -32,15 +28,11 @@ pub(crate) fn first_lag<L: Ledger>(
     ensures key { result ≡ lag tops.now stamps.now }
     ensures looks { looks.new ≤ looks.old + length stamps.now }
 {
-    let mut start = 0;
-    let mut place = 0;
-    while let Some(key) = stamps.next_key(start) {
+    for (key, clock) in stamps.iter() {
         looks.tick();
-        if is_below(tops, key, stamps.clock_at(place)) {
+        if is_below(tops, key, clock) {
             return Some(key);
         }
-        start = key.0 + 1;
-        place += 1;
     }
     None
 }

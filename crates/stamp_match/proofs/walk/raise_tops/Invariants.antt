@@ -1,12 +1,8 @@
-use Rattle.std.proofs.Common.{◌≡◌, ◌+◌, ◌-◌, drop, length}
+use Rattle.std.proofs.Common.{◌≡◌, ◌+◌, length}
 use Rattle.service_machine.specs.States.{raise}
-use Rattle.stamp_clock.specs.Beside.{AreStamps}
-use Rattle.stamp_match.proofs.WalkLemmas.{Walk}
+use Rattle.stamp_clock.proofs.FloorLemmas.{ArePairs}
 use Rattle.stamp_match.proofs.walk.raise_tops.Given as goal
 
+-- what is left to walk over
 abbrev pub invariant-loop-key : goal.invariant-loop-key
-invariant-loop-key g l =
-    (AreStamps l.stamps → Walk l.stamps l.start l.place) × (raise l.tops (drop l.place l.stamps) ≡ raise l.initial.tops l.stamps) × (l.looks ≡ l.initial.looks + l.place)
-
-abbrev pub decreases-loop-key : goal.decreases-loop-key
-decreases-loop-key g l = length l.stamps - l.place
+invariant-loop-key g l = ArePairs l.key-iterator × (raise l.tops l.key-iterator ≡ raise l.initial.tops l.stamps) × (l.looks + length l.key-iterator ≡ l.initial.looks + length l.stamps)
