@@ -1,8 +1,8 @@
 // What expressions are read as, mean and are printed as.
-use crate::{eval, names_of, needs_int_members, print_expr, read_expr, type_of};
+use crate::{Expr, eval, names_of, needs_int_members, print_expr, read_expr, type_of};
 use std::alloc::{AllocError, Global};
 use std::test::Fail;
-use svc_value::{Value, print_value};
+use svc_value::{Names, Value, print_value};
 
 // The text of these bytes.
 fn text(alloc: Global, bytes: &[u8]) -> Result<String, AllocError> {
@@ -12,16 +12,23 @@ fn text(alloc: Global, bytes: &[u8]) -> Result<String, AllocError> {
     }
 }
 
-// The canonical text, or why there is none.
-fn shown(alloc: Global, expr: &str) -> Result<String, AllocError> {
-    let reading = match read_expr(alloc, expr) {
-        Ok(reading) => reading,
-        Err(error) => return format!(in alloc; "{error:?}"),
-    };
+// The canonical text of a tree in which the names stand for its numbers.
+fn printed(alloc: Global, expr: &Expr, names: &Names) -> Result<String, AllocError> {
+    if usize::from(names_of(expr)) > names.len() {
+        return String::from_str(alloc, "a name is missing");
+    }
     let mut out = Vec::new(alloc);
-    match print_expr(&reading.expr, &reading.names, &mut out) {
+    match print_expr(expr, names, &mut out) {
         Ok(()) => text(alloc, &out),
         Err(_) => String::from_str(alloc, "memory"),
+    }
+}
+
+// The canonical text, or why there is none.
+fn shown(alloc: Global, expr: &str) -> Result<String, AllocError> {
+    match read_expr(alloc, expr) {
+        Ok(reading) => printed(alloc, &reading.expr, &reading.names),
+        Err(error) => format!(in alloc; "{error:?}"),
     }
 }
 
@@ -30,6 +37,9 @@ fn value(alloc: Global, expr: &str, members: &[Value]) -> Result<String, AllocEr
     let Ok(reading) = read_expr(alloc, expr) else {
         return String::from_str(alloc, "not read");
     };
+    if members.len() > 16 {
+        return String::from_str(alloc, "too many members");
+    }
     let mut out = Vec::new(alloc);
     match eval(alloc, &reading.expr, &[], members) {
         Ok(value) => match print_value(&value, &mut out) {
@@ -188,8 +198,9 @@ fn copies_are_the_same(rt: HostRuntime) -> Result<(), Fail> {
     let Ok(copy) = reading.expr.copy() else {
         return Err(Fail::from("memory"));
     };
-    let mut out = Vec::new(alloc);
-    assert!(rt; print_expr(&copy, &reading.names, &mut out).is_ok());
-    assert_eq!(rt; text(alloc, &out)?.as_str(), "((b + (sum() * a)) + b)");
+    assert_eq!(rt;
+        printed(alloc, &copy, &reading.names)?.as_str(),
+        "((b + (sum() * a)) + b)"
+    );
     Ok(())
 }
