@@ -1,4 +1,5 @@
 -- What was added is a beginning of the text due, and at the end all of it.
+use Rattle.std.specs.Io.KnownBytes.{Appends}
 use Rattle.std.proofs.Common.{sym, subst, ℕ, ◌≤◌, inl, inr, arith, List, [], length, Option, None, Some}
 use Rattle.settle_core.specs.Settling.{Settling}
 use Rattle.svc_text.specs.declared.plan.Leg.{Leg}
@@ -8,8 +9,9 @@ use Rattle.svc_text.specs.Document.{HasLegs, IsRefusal}
 use Rattle.svc_text.specs.Rows.{AreLegsAfter}
 use Rattle.trace_text.specs.Settled.{Settles}
 use Rattle.trace_text.proofs.Untracing.{settled_is_untraced}
-use Rattle.qprop_cli.specs.declared.command.Command.TheVariants.{Step}
-use Rattle.qprop_cli.specs.Outcome.{SettledOutput, IsDue, AddsDue}
+use Rattle.qprop_cli.specs.declared.command.Command.TheVariants.{Step, Frames}
+use Rattle.qprop_cli.specs.FrameStream.{HasLines, IsStreamRefusal}
+use Rattle.qprop_cli.specs.Outcome.{SettledOutput, FramesOutput, IsDue, AddsDue}
 use Rattle.qprop_cli.specs.Refusals.{refusal_line}
 use Rattle.qprop_cli.specs.Run.{AddsSettled, AddsBlocks, HasDone}
 use Rattle.qprop_cli.specs.Streams.{ReadsWhole, ReadsUpTo, AddsBeginning}
@@ -24,7 +26,12 @@ module _ (left_old left_new held_old held_new : Option (List ℕ)) where
   refusal_due read refusal whole refused begun =
       record { text = refusal_line refusal; due = IsDue.refusal (record { read = read; whole = whole; refused = refused }); begun = begun }
 
-  -- a document was read to its end
+  pub stream_refusal_due : (read : List ℕ) (refusal : Refusal) → ReadsUpTo 1048576 left_old left_new read → IsStreamRefusal read refusal →
+      AddsBeginning held_old held_new (refusal_line refusal) → AddsDue (Some Frames) left_old left_new held_old held_new
+  stream_refusal_due read refusal whole refused begun =
+      record { text = refusal_line refusal; due = IsDue.refusal (record { read = read; whole = whole; refused = refused }); begun = begun }
+
+  -- a document, or a stream, was read to its end
   whole_read : (read : List ℕ) → length read ≤ 1048576 → ReadsUpTo 1048576 left_old left_new read → ReadsWhole left_old left_new read
   whole_read read short (gone, inl end) = (gone, end)
   whole_read read short (gone, inr long) = absurd (omega (arith, short, long))
@@ -51,3 +58,13 @@ module _ (left_old left_new held_old held_new : Option (List ℕ)) where
         settles = subst (λ t. Settles 0 [] legs t) (sym (settled_is_untraced 0 [] legs run.text tt each run.settles)) run.settles;
         network_done = done;
       }
+
+  pub lines_due : (read text : List ℕ) → ReadsUpTo 1048576 left_old left_new read → HasLines read text → AddsBeginning held_old held_new text →
+      AddsDue (Some Frames) left_old left_new held_old held_new
+  lines_due read text whole lines begun =
+      record { text = text; due = IsDue.lines read (whole_read read lines.accepted.short whole) lines; begun = begun }
+
+  pub frames_output : (read text : List ℕ) → ReadsUpTo 1048576 left_old left_new read → HasLines read text → Appends held_old held_new text →
+      FramesOutput left_old left_new held_old held_new
+  frames_output read text whole lines gained =
+      record { read = read; whole = whole_read read lines.accepted.short whole; added = text; gained = gained; lines = lines }

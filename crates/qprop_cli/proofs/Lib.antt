@@ -1,5 +1,6 @@
 pub mod Due
 pub mod Legs
 pub mod Runs
+pub mod Streaming
 pub mod Values
 pub mod Writes

@@ -1,3 +1,5 @@
+pub mod FrameStream
+pub mod FrameText
 pub mod Outcome
 pub mod Refusals
 pub mod Run

@@ -9,7 +9,8 @@ use Rattle.svc_text.specs.Document.{HasLegs, IsRefusal}
 use Rattle.trace_text.specs.Settled.{Settles}
 use Rattle.trace_text.specs.Untraced.{untraced}
 use Rattle.qprop_cli.specs.declared.command.Command.{Command}
-use Rattle.qprop_cli.specs.declared.command.Command.TheVariants.{Step}
+use Rattle.qprop_cli.specs.declared.command.Command.TheVariants.{Step, Frames}
+use Rattle.qprop_cli.specs.FrameStream.{HasLines, IsStreamRefusal}
 use Rattle.qprop_cli.specs.Refusals.{refusal_line}
 use Rattle.qprop_cli.specs.Run.{HasDone}
 use Rattle.qprop_cli.specs.Streams.{ReadsWhole, ReadsUpTo, AddsBeginning}
@@ -27,23 +28,38 @@ pub record SettledOutput (left_old left_new held_old held_new : Option (List ℕ
   pub settles : Settles 0 [] legs (untraced added)
   pub network_done : IfSome network (λ n. HasDone legs n)
 
--- what the source gave, to its end or one byte past the most of a document, is no accepted document and has this refusal
-pub record RefusesInput (left_old left_new : Option (List ℕ)) (refusal : Refusal) : Type 0 where
+-- the source was read to its end, what it gave is a stream of frames, and what was added is a line for each
+pub record FramesOutput (left_old left_new held_old held_new : Option (List ℕ)) : Type 0 where
+  pub read : List ℕ
+  pub whole : ReadsWhole left_old left_new read
+  pub added : List ℕ
+  pub gained : Appends held_old held_new added
+  pub lines : HasLines read added
+
+-- the refusal of what a command reads: of a document by `step`, and of a stream of frames by `frames`
+abbrev pub IsRefusedBy : Option Command → List ℕ → Refusal → Type 0
+IsRefusedBy None bytes refusal = ⊥
+IsRefusedBy (Some Step) bytes refusal = IsRefusal mode.Step bytes refusal
+IsRefusedBy (Some Frames) bytes refusal = IsStreamRefusal bytes refusal
+
+-- what the source gave, to its end or one byte past the most that a command reads, has this refusal by the command
+pub record RefusesInput (command : Option Command) (left_old left_new : Option (List ℕ)) (refusal : Refusal) : Type 0 where
   pub read : List ℕ
   pub whole : ReadsUpTo 1048576 left_old left_new read
-  pub refused : IsRefusal mode.Step read refusal
+  pub refused : IsRefusedBy command read refusal
 
--- what the source gave is no accepted document, and the line of its refusal was added
-pub record RefusedOutput (left_old left_new held_old held_new : Option (List ℕ)) (refusal : Refusal) : Type 0 where
-  pub input : RefusesInput left_old left_new refusal
+-- what the source gave is refused by the command, and the line of its refusal was added
+pub record RefusedOutput (command : Option Command) (left_old left_new held_old held_new : Option (List ℕ)) (refusal : Refusal) : Type 0 where
+  pub input : RefusesInput command left_old left_new refusal
   pub added : Appends held_old held_new (refusal_line refusal)
 
--- the text that is due: the usage line where the words are no command, else the refusal line, or the blocks of the legs that were run
+-- the text that is due: the usage line where the words are no command, else the refusal line, or the blocks of the legs that were run, or the lines of all frames
 pub data IsDue (left_old left_new : Option (List ℕ)) : Option Command → List ℕ → Type 0 where
   usage : IsDue left_old left_new None usage_line
-  refusal : {refusal : Refusal} → RefusesInput left_old left_new refusal → IsDue left_old left_new (Some Step) (refusal_line refusal)
+  refusal : {command : Option Command} {refusal : Refusal} → RefusesInput command left_old left_new refusal → IsDue left_old left_new command (refusal_line refusal)
   blocks : {text : List ℕ} (read : List ℕ) (run left : List Leg) → ReadsWhole left_old left_new read → HasLegs mode.Step read (run ++ left) → Settles 0 [] run text
       → IsDue left_old left_new (Some Step) text
+  lines : {text : List ℕ} (read : List ℕ) → ReadsWhole left_old left_new read → HasLines read text → IsDue left_old left_new (Some Frames) text
 
 -- what was added is a beginning of the text due
 pub record AddsDue (command : Option Command) (left_old left_new held_old held_new : Option (List ℕ)) : Type 0 where

@@ -7,6 +7,8 @@ ghost use Rattle.std.specs.String.{string_bytes};
 pub enum Command {
     /// Settle a document leg by leg on one thread.
     Step,
+    /// Show the frames of a stream.
+    Frames,
 }
 
 impl Command {
@@ -18,6 +20,7 @@ impl Command {
     {
         match words {
             [first] if first.as_str() == "step" => Some(Command::Step),
+            [first] if first.as_str() == "frames" => Some(Command::Frames),
             _ => None,
         }
     }

@@ -12,7 +12,7 @@ pub enum Status {
     Done,
     /// The words are not accepted, and the usage line was written.
     Usage,
-    /// The document is not accepted, and the refusal line was written.
+    /// The document, or the stream of frames, is not accepted, and the refusal line was written.
     Refused(Refusal),
     /// The source failed; nothing was written.
     ReadFault,

@@ -3,11 +3,12 @@ ghost use Rattle.std.specs.Prelude.{◌≡◌, ◌≢◌, ◌⊎◌, ◌↔◌, 
 ghost use Rattle.std.specs.Io.KnownBytes.{Appends, Keeps};
 ghost use Rattle.std.specs.String.{string_bytes};
 ghost use Rattle.svc_value.specs.Causes.{Rose};
-ghost use Rattle.qprop_cli.specs.Outcome.{SettledOutput, RefusedOutput, AddsDue};
+ghost use Rattle.qprop_cli.specs.Outcome.{SettledOutput, FramesOutput, RefusedOutput, AddsDue};
 ghost use Rattle.qprop_cli.specs.Refusals.{refusal_line};
 ghost use Rattle.qprop_cli.specs.Streams.{AddsBeginning};
 ghost use Rattle.qprop_cli.specs.Words.{command_of, usage_line};
 
+use crate::frames::{StreamStop, frames_text};
 use crate::outcome::ended;
 use crate::reading::{ReadError, read_all};
 use crate::refusing::refusal_text;
@@ -31,10 +32,13 @@ pub fn qprop_plain<S: Source, K: Sink>(
     ensures usage { result.status ≡ Status.Usage → command_of (map string_bytes words.now) ≡ None }
     ensures usage_line { result.status ≡ Status.Usage → Appends (K.held sink.old) (K.held sink.new) usage_line }
 
-    ensures settled { result.status ≡ Status.Done → SettledOutput (S.left source.old) (S.left source.new) (K.held sink.old) (K.held sink.new) result.network }
-    ensures network { IsSome result.network ↔ (result.status ≡ Status.Done) }
+    ensures settled { command_of (map string_bytes words.now) ≡ Some Command.Step → result.status ≡ Status.Done →
+        SettledOutput (S.left source.old) (S.left source.new) (K.held sink.old) (K.held sink.new) result.network }
+    ensures frames { command_of (map string_bytes words.now) ≡ Some Command.Frames → result.status ≡ Status.Done →
+        FramesOutput (S.left source.old) (S.left source.new) (K.held sink.old) (K.held sink.new) }
+    ensures network { IsSome result.network ↔ ((command_of (map string_bytes words.now) ≡ Some Command.Step) × (result.status ≡ Status.Done)) }
     ensures refused { (refusal : Refusal) → result.status ≡ Status.Refused refusal →
-        RefusedOutput (S.left source.old) (S.left source.new) (K.held sink.old) (K.held sink.new) refusal }
+        RefusedOutput (command_of (map string_bytes words.now)) (S.left source.old) (S.left source.new) (K.held sink.old) (K.held sink.new) refusal }
 
     ensures read_fault { result.status ≡ Status.ReadFault → Rose (S.faults source.old) (S.faults source.new) }
     ensures nothing { result.status ≡ Status.ReadFault → Keeps (K.held sink.old) (K.held sink.new) }
@@ -51,6 +55,7 @@ pub fn qprop_plain<S: Source, K: Sink>(
 {
     match Command::from_words(words) {
         Some(Command::Step) => step(alloc, source, sink),
+        Some(Command::Frames) => frames(alloc, source, sink),
         None => usage(sink),
     }
 }
@@ -76,7 +81,7 @@ fn step<S: Source, K: Sink>(alloc: Global, source: &mut S, sink: &mut K) -> Outc
     ensures network { IsSome result.network ↔ (result.status ≡ Status.Done) }
     ensures no_usage { result.status ≢ Status.Usage }
     ensures refused { (refusal : Refusal) → result.status ≡ Status.Refused refusal →
-        RefusedOutput (S.left source.old) (S.left source.new) (K.held sink.old) (K.held sink.new) refusal }
+        RefusedOutput (Some Command.Step) (S.left source.old) (S.left source.new) (K.held sink.old) (K.held sink.new) refusal }
     ensures read_fault { result.status ≡ Status.ReadFault → Rose (S.faults source.old) (S.faults source.new) }
     ensures nothing { result.status ≡ Status.ReadFault → Keeps (K.held sink.old) (K.held sink.new) }
     ensures write_fault { result.status ≡ Status.WriteFault → Rose (K.faults sink.old) (K.faults sink.new) }
@@ -104,6 +109,39 @@ fn step<S: Source, K: Sink>(alloc: Global, source: &mut S, sink: &mut K) -> Outc
         },
         Err(Stop::Fault) => ended(Status::WriteFault),
         Err(Stop::OutOfMemory) => ended(Status::OutOfMemory),
+    }
+}
+
+/// Reads a stream of frames and writes their lines. Nothing is written before the whole stream is read.
+#[tactic(auto, using(crate::proofs::Due::stream_refusal_due, crate::proofs::Due::lines_due, crate::proofs::Due::frames_output))]
+fn frames<S: Source, K: Sink>(alloc: Global, source: &mut S, sink: &mut K) -> Outcome
+    ensures frames { result.status ≡ Status.Done → FramesOutput (S.left source.old) (S.left source.new) (K.held sink.old) (K.held sink.new) }
+    ensures network { result.network ≡ None }
+    ensures no_usage { result.status ≢ Status.Usage }
+    ensures refused { (refusal : Refusal) → result.status ≡ Status.Refused refusal →
+        RefusedOutput (Some Command.Frames) (S.left source.old) (S.left source.new) (K.held sink.old) (K.held sink.new) refusal }
+    ensures read_fault { result.status ≡ Status.ReadFault → Rose (S.faults source.old) (S.faults source.new) }
+    ensures nothing { result.status ≡ Status.ReadFault → Keeps (K.held sink.old) (K.held sink.new) }
+    ensures write_fault { result.status ≡ Status.WriteFault → Rose (K.faults sink.old) (K.faults sink.new) }
+    ensures begun { result.status ≡ Status.WriteFault → AddsDue (Some Command.Frames) (S.left source.old) (S.left source.new) (K.held sink.old) (K.held sink.new) }
+    ensures memory { result.status ≡ Status.OutOfMemory → Keeps (K.held sink.old) (K.held sink.new) }
+    ensures no_keep_fault { result.status ≢ Status.KeepFault }
+    ensures no_state { (result.status ≢ Status.NoState) × (result.status ≢ Status.BadState) }
+    ensures no_verdict { result.status ≢ Status.Illegal }
+{
+    let bytes = match read_all(alloc, source) {
+        Ok(bytes) => bytes,
+        Err(ReadError::Fault) => return ended(Status::ReadFault),
+        Err(ReadError::OutOfMemory) => return ended(Status::OutOfMemory),
+    };
+    let text = match frames_text(alloc, &bytes) {
+        Ok(text) => text,
+        Err(StreamStop::Refused(refusal)) => return refuse(alloc, refusal, sink),
+        Err(StreamStop::OutOfMemory) => return ended(Status::OutOfMemory),
+    };
+    match write_all(sink, &text) {
+        Ok(()) => ended(Status::Done),
+        Err(_) => ended(Status::WriteFault),
     }
 }
 

@@ -1,4 +1,4 @@
-// Reading a document.
+// Reading a document or a stream of frames.
 ghost use Rattle.std.specs.Prelude.{◌≤◌, IfOk, IsErrOf};
 ghost use Rattle.svc_value.specs.Causes.{Rose};
 ghost use Rattle.qprop_cli.specs.Streams.{ReadsUpTo};
@@ -6,13 +6,13 @@ ghost use Rattle.qprop_cli.specs.Streams.{ReadsUpTo};
 use std::alloc::{AllocError, Global};
 use svc_value::{Failed, Source};
 
-/// The most bytes that a document has.
+/// The most bytes that a document or a stream of frames has.
 pub const LONGEST_DOCUMENT: usize = 1_048_576;
 
 // How many bytes one read asks for.
 const CHUNK: usize = 8192;
 
-/// Why a document was not read.
+/// Why the source was not read to its end.
 #[derive(Clone, Copy, Debug, PartialEq, Eq)]
 pub(crate) enum ReadError {
     /// The source failed.
@@ -43,7 +43,7 @@ impl From<Failed> for ReadError {
     }
 }
 
-/// All that the source has left, or its first 1,048,577 bytes where there are more than a document has. `Fault` only where
+/// All that the source has left, or its first 1,048,577 bytes where there are more than may be read. `Fault` only where
 /// the source's count of faults rose; `OutOfMemory` for want of memory. After both, bytes that were read are gone.
 pub(crate) fn read_all<S: Source>(alloc: Global, source: &mut S) -> Result<Vec<u8>, ReadError>
     ensures read { IfOk result (λ bytes. ReadsUpTo 1048576 (S.left source.old) (S.left source.new) bytes.items) }

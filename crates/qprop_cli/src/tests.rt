@@ -1,3 +1,5 @@
+mod frames;
+
 ghost use Rattle.std.specs.Prelude.{◌≤◌};
 
 use crate::{LONGEST_DOCUMENT, Outcome, Status, USAGE, qprop_plain};
@@ -19,11 +21,12 @@ struct Ended {
     held: Vec<u8>,
 }
 
-// A call of `step` on the document, from a source of `gives` bytes a call and to a sink of `takes` bytes a call, whose calls of
+// A call of the word on the input, from a source of `gives` bytes a call and to a sink of `takes` bytes a call, whose calls of
 // these numbers fail; 0 stands for none.
-fn step_with(
+fn call_with(
     alloc: Global,
-    document: &[u8],
+    word: &str,
+    input: &[u8],
     gives: usize,
     source_fails: u64,
     takes: usize,
@@ -33,8 +36,8 @@ fn step_with(
     requires takes { 1 ≤ takes }
 {
     let mut words = Vec::new(alloc);
-    words.push(String::from_str(alloc, "step")?)?;
-    let bytes = Bytes::from_slice(alloc, document)?;
+    words.push(String::from_str(alloc, word)?)?;
+    let bytes = Bytes::from_slice(alloc, input)?;
     let mut source = MemorySource::new(bytes, gives, vec![in alloc; source_fails]?);
     let mut sink = MemorySink::new(alloc, 65536, takes, vec![in alloc; sink_fails]?)?;
     let outcome = qprop_plain(alloc, &words, &mut source, &mut sink);
@@ -43,7 +46,7 @@ fn step_with(
 }
 
 fn step(alloc: Global, document: &[u8]) -> Result<Ended, Fail> {
-    step_with(alloc, document, 4096, 0, 4096, 0)
+    call_with(alloc, "step", document, 4096, 0, 4096, 0)
 }
 
 #[test]
@@ -154,7 +157,7 @@ fn documents_are_refused(rt: HostRuntime) -> Result<(), Fail> {
 
 // How the calls of the document end where the sink takes one byte a call and its call of this number fails.
 fn sink_failing_at(alloc: Global, call: u64) -> Result<Ended, Fail> {
-    step_with(alloc, SUM.as_bytes(), 4096, 0, 1, call)
+    call_with(alloc, "step", SUM.as_bytes(), 4096, 0, 1, call)
 }
 
 #[test]
@@ -173,7 +176,7 @@ fn a_failing_sink_keeps_a_beginning(rt: HostRuntime) -> Result<(), Fail> {
     let ended = sink_failing_at(alloc, 53)?;
     assert!(rt; ended.outcome.status == Status::Done);
     assert_eq!(rt; ended.held.as_slice(), SUM_SETTLED.as_bytes());
-    let ended = step_with(alloc, SUM.as_bytes(), 4096, 0, 8, 3)?;
+    let ended = call_with(alloc, "step", SUM.as_bytes(), 4096, 0, 8, 3)?;
     assert!(rt; ended.outcome.status == Status::WriteFault);
     assert_eq!(rt; ended.held.as_slice(), b"settle 1\na 3\nb 4".as_slice());
     Ok(())
@@ -183,13 +186,13 @@ fn a_failing_sink_keeps_a_beginning(rt: HostRuntime) -> Result<(), Fail> {
 fn a_failing_source_writes_nothing(rt: HostRuntime) -> Result<(), Fail> {
     let alloc = rt.alloc();
     for call in 1..=97u64 {
-        let ended = step_with(alloc, SUM.as_bytes(), 1, call, 4096, 0)?;
+        let ended = call_with(alloc, "step", SUM.as_bytes(), 1, call, 4096, 0)?;
         assert!(rt; ended.outcome.status == Status::ReadFault, "{call}");
         assert!(rt; ended.held.is_empty(), "{call}");
     }
-    let ended = step_with(alloc, SUM.as_bytes(), 1, 98, 4096, 0)?;
+    let ended = call_with(alloc, "step", SUM.as_bytes(), 1, 98, 4096, 0)?;
     assert!(rt; ended.outcome.status == Status::Done);
-    let ended = step_with(alloc, SUM.as_bytes(), 16, 2, 4096, 0)?;
+    let ended = call_with(alloc, "step", SUM.as_bytes(), 16, 2, 4096, 0)?;
     assert!(rt; ended.outcome.status == Status::ReadFault);
     assert!(rt; ended.held.is_empty());
     Ok(())
@@ -211,10 +214,12 @@ fn called(alloc: Global, words: &[&str]) -> Result<Ended, Fail> {
 #[test]
 fn other_words_write_the_usage_line(rt: HostRuntime) -> Result<(), Fail> {
     let alloc = rt.alloc();
-    let rows: [&[&str]; 6] = [
+    let rows: [&[&str]; 8] = [
         &[],
         &["run"],
         &["step", "step"],
+        &["frames", "frames"],
+        &["frame"],
         &["Step"],
         &["step "],
         &["--help"],

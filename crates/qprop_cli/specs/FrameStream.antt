@@ -1,0 +1,58 @@
+-- Streams of frames, and what is refused of other bytes.
+use Rattle.std.specs.Prelude.{◌≡◌, ◌≢◌, ℕ, ◌+◌, ◌<◌, ◌≤◌, ◌⊎◌, List, [], ◌∷◌, ◌++◌, length, flat_map}
+use Rattle.svc_text.specs.declared.refusal.Code.TheVariants.{E01, E20}
+use Rattle.svc_text.specs.declared.refusal.Refusal.{Refusal}
+use Rattle.wire_frame.specs.declared.frame.Frame.{Frame}
+use Rattle.wire_frame.specs.Frames.{FrameOf}
+use Rattle.wire_frame.specs.Stream.{framed}
+use Rattle.qprop_cli.specs.FrameText.{frame_line}
+
+-- the bytes are those of these frames, each after its length
+pub data IsStream : List ℕ → List Frame → Type 0 where
+  ends : IsStream [] []
+  goes_on : {own rest : List ℕ} {frame : Frame} {frames : List Frame} → FrameOf frame own → IsStream rest frames → IsStream (framed own ++ rest) (frame ∷ frames)
+
+-- the bytes are a stream of these frames, and no more than a stream may have
+pub record HasFrames (bytes : List ℕ) (frames : List Frame) : Type 0 where
+  pub short : length bytes ≤ 1048576
+  pub stream : IsStream bytes frames
+
+-- the bytes are a stream of frames, and the text is a line for each
+pub record HasLines (bytes text : List ℕ) : Type 0 where
+  pub frames : List Frame
+  pub accepted : HasFrames bytes frames
+  pub lines : text ≡ flat_map frame_line frames
+
+-- a frame stands in front of the bytes after its length; together they have so many, the rest is behind them, and the line of the frame was added
+pub record AddsLine (size : ℕ) (bytes rest old_text new_text : List ℕ) : Type 0 where
+  pub frame : Frame
+  pub own : List ℕ
+  pub frame_of : FrameOf frame own
+  pub whole : bytes ≡ framed own ++ rest
+  pub size_is : size ≡ length own + 2
+  pub line : new_text ≡ old_text ++ frame_line frame
+
+-- the bytes begin with a frame after its length
+pub record BeginsWithFrame (bytes : List ℕ) : Type 0 where
+  pub frame : Frame
+  pub own : List ℕ
+  pub behind : List ℕ
+  pub frame_of : FrameOf frame own
+  pub whole : bytes ≡ framed own ++ behind
+
+-- the frame with this number, from 1, is the first wrong one: what stands before it is a stream of frames, and something follows that begins with none
+pub record IsFirstWrong (bytes : List ℕ) (number : ℕ) : Type 0 where
+  pub front : List ℕ
+  pub rest : List ℕ
+  pub frames : List Frame
+  pub whole : bytes ≡ front ++ rest
+  pub stream : IsStream front frames
+  pub number_is : number ≡ length frames + 1
+  pub more : rest ≢ []
+  pub no_frame : BeginsWithFrame rest → ⊥
+
+-- the refusal of bytes that are no stream, or more than a stream may have
+abbrev pub IsStreamRefusal : List ℕ → Refusal → Type 0
+IsStreamRefusal bytes refusal =
+    ((1048576 < length bytes) × (refusal ≡ record { line = 0; code = E01 }))
+    ⊎ ((length bytes ≤ 1048576) × IsFirstWrong bytes refusal.line × (refusal.code ≡ E20))
