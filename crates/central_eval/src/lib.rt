@@ -3,5 +3,7 @@
 #![tactic(auto)]
 
 mod evaluation;
+#[cfg(test)]
+mod tests;
 
 pub use evaluation::central;
