@@ -18,7 +18,7 @@ use link_fifo::{PieceIn, PieceOut, RingLink};
 use std::alloc::Global;
 use std::env;
 use std::process::ExitCode;
-use std::thread;
+use std::thread::{self, Threads};
 use svc_value::{Bytes, OutOfMemory};
 
 const ITEMS: u64 = 2_000_000;
@@ -79,8 +79,7 @@ fn take_all(into: PieceIn) -> u64 {
     bytes
 }
 
-fn run(rt: &HostRuntime, len: usize) -> Result<u64, OutOfMemory> {
-    let alloc = rt.alloc();
+fn run<R: Threads + Sync>(rt: &R, alloc: Global, len: usize) -> Result<u64, OutOfMemory> {
     let (out, into) = RingLink::new(alloc)?.split();
     let out = PieceOut::new(out);
     let into = PieceIn::new(alloc, into);
@@ -94,7 +93,7 @@ fn main(rt: HostRuntime) -> ExitCode {
         Err(_) => return ExitCode::FAILURE,
     };
     let len = if long { 585 } else { 20 };
-    match run(&rt, len) {
+    match run(&rt, rt.alloc(), len) {
         Ok(bytes) if bytes == ITEMS * len as u64 => ExitCode::SUCCESS,
         _ => ExitCode::FAILURE,
     }
