@@ -1,6 +1,8 @@
 ghost use Rattle.std.specs.Prelude.{◌≤◌, length, IfOk};
 
-use crate::{LinkIn, LinkOut, MemoryLink, Piece, PieceIn, PieceOut, RingLink, rejoin_pieces};
+use crate::{
+    ItemError, LinkIn, LinkOut, MemoryLink, Piece, PieceIn, PieceOut, RingLink, rejoin_pieces,
+};
 use std::alloc::Global;
 use std::test::Fail;
 use svc_value::Bytes;
@@ -123,5 +125,22 @@ fn ends_come_together(rt: HostRuntime) -> Result<(), Fail> {
     assert_eq!(rt; rest.len(), 4);
     assert_eq!(rt; rest[0].as_slice(), [5u8].as_slice());
     assert_eq!(rt; rest[3].as_slice(), item(alloc, 8, 585)?.as_slice());
+    Ok(())
+}
+
+#[test]
+fn a_length_that_no_item_has_is_refused(rt: HostRuntime) -> Result<(), Fail> {
+    let alloc = rt.alloc();
+    let (mut out, into) = RingLink::new(alloc)?.split();
+    let mut into = PieceIn::new(alloc, into);
+    // An item of one byte, and then a length of 586.
+    assert!(rt; out.push(Piece::cut(&[0, 1, 7])).is_ok());
+    assert!(rt; out.push(Piece::cut(&[2, 74])).is_ok());
+    assert_eq!(rt;
+        into.pop_item()?.ok_or("none")?.as_slice(),
+        [7u8].as_slice()
+    );
+    assert!(rt; matches!(into.pop_item(), Err(ItemError::Length { at: 3 })));
+    assert!(rt; matches!(into.pop_item(), Err(ItemError::Length { at: 3 })));
     Ok(())
 }
