@@ -198,3 +198,30 @@ fn frames_have_their_parts(rt: HostRuntime) -> Result<(), Fail> {
     assert_eq!(rt; (second.place, two.0), (1, 2));
     Ok(())
 }
+
+// What the frame answers with the byte at `at` replaced: a byte before that place is never blamed.
+fn blames_no_earlier_byte(alloc: Global, frame: &[u8], at: usize, byte: u8) -> Result<bool, Fail> {
+    let mut bytes = frame.to_vec(alloc)?;
+    if let Some(bent) = bytes.get_mut(at) {
+        *bent = byte;
+    }
+    Ok(match length_of(alloc, bytes.as_slice())? {
+        Ok(len) => len <= bytes.len(),
+        Err((place, _)) => at <= place,
+    })
+}
+
+#[test]
+fn every_byte_bent_is_answered(rt: HostRuntime) -> Result<(), Fail> {
+    for (frame, _) in WHOLE {
+        for at in 0..frame.len() {
+            for byte in [0, 0x7f, 0x80, 0xff] {
+                assert!(rt;
+                    blames_no_earlier_byte(rt.alloc(), frame, at, byte)?,
+                    "byte {at} as {byte} in {frame:?}"
+                );
+            }
+        }
+    }
+    Ok(())
+}
