@@ -52,6 +52,7 @@ OneStream a b = OneRing a.out b.into
 abbrev pub IsWriterOf : RingOut → PieceOut → Type 0
 IsWriterOf out end = SameOut out end.out
 
+-- and the end that items are read from
 abbrev pub IsReaderOf : RingIn → PieceIn → Type 0
 IsReaderOf into end = SameIn into end.into
 
@@ -59,5 +60,6 @@ IsReaderOf into end = SameIn into end.into
 abbrev pub SameWriter : PieceOut → PieceOut → Type 0
 SameWriter old new = SameOut old.out new.out
 
+-- the same of the ends that items are read from
 abbrev pub SameReader : PieceIn → PieceIn → Type 0
 SameReader old new = SameIn old.into new.into
