@@ -16,6 +16,7 @@ use Rattle.svc_expr.specs.Tree.{Tree, number, pair}
 use Rattle.svc_expr.specs.Grammar.{level_number, tighter, operator, level_of, at_level, joins, IsLeft, call_of, aggregate_of, Spells, whole_number, negative_number, quoted_text, named, in_brackets, call, member_call, negation, joined, comparison, denial, if_then_else, as_tighter}
 use Rattle.svc_expr.specs.Reading.{naming, Part, Read, ◌>>=◌, formed_part, pair_part, choice_part, after_close, words_at, aggregate_at, called_at, operand_at, unary_at, with_op, chain, product_at, sum_at, compared_at, comparison_at, denial_at, conjunction_at, disjunction_at, else_at, then_at, whole_at, level_at, inner}
 use Rattle.svc_expr.proofs.Sizes.{Keeps}
+use Rattle.svc_expr.proofs.Unquoted.{literal_is_read}
 use Rattle.svc_expr.proofs.Sound.{Pair, is_sound}
 
 -- what is spelled has at least one token
@@ -254,7 +255,7 @@ module _ (keep : Tree → Part) (keeps : Keeps keep) (names : List (List ℕ)) w
   unfolding operand_at unary_at compared_at denial_at whole_at inner
   goes (whole_number {n = n} {rest = rest} h) k = ap (λ (b : Bool). cond b (Some (keep (number (pos n)), rest)) None) (lt-ltb n (2 ^ 63) h)
   goes (negative_number {n = n} {rest = rest} h) k = ap (λ (b : Bool). cond b (Some (keep (number (neg_ℤ (pos n))), rest)) None) (le-leb n (2 ^ 63) h)
-  goes (quoted_text {rest = rest} h) k = ap (λ (o : Option (List ℕ)). words_at keep o rest) h
+  goes (quoted_text {raw = raw} {text = text} {rest = rest} h) k = ap (λ (o : Option (List ℕ)). words_at keep o rest) (literal_is_read raw text h)
   goes named k = refl
   goes (in_brackets s) k = ap (λ (r : Read). r >>= λ x. after_close x.0 x.1) (goes s refl)
   goes (call {d = d} {ts = ts} {rest = rest} {e = e} {word = word} {form = f} h s) k =

@@ -23,14 +23,14 @@ same_tree a b r p q =
     let e = ap (λ (z : Part × List Token). z.0) (some_is (Some a, []) (Some b, []) (sym p ∙ q)) in
     cc
 
-pub one_tree : (names : Names) (ts : List Token) (a b : Tree) → Spells names Whole 64 ts a [] → Spells names Whole 64 ts b [] → a ≡ b
-one_tree names ts a b s t = same_tree a b (level_at Some (naming Some names) (inner Some (naming Some names) 64) Whole ts) (is_complete Some keeps_all names s refl) (is_complete Some keeps_all names t refl)
+one_spelled : (names : Names) (ts : List Token) (a b : Tree) → Spells names Whole 64 ts a [] → Spells names Whole 64 ts b [] → a ≡ b
+one_spelled names ts a b s t = same_tree a b (level_at Some (naming Some names) (inner Some (naming Some names) 64) Whole ts) (is_complete Some keeps_all names s refl) (is_complete Some keeps_all names t refl)
 
 -- an expression has one tree and one list of names
 pub one_expression : (ts : List Token) (a b : Tree) (n m : Names) → IsExpression ts a n → IsExpression ts b m → (a ≡ b) × (n ≡ m)
 one_expression ts a b n m s t =
     let e = t.0 ∙ sym s.0 in
-    (one_tree n ts a b s.1 (subst (λ (l : Names). Spells l Whole 64 ts b []) e t.1), sym e)
+    (one_spelled n ts a b s.1 (subst (λ (l : Names). Spells l Whole 64 ts b []) e t.1), sym e)
 
 text_is_read : (names : Names) (ts : List Token) (e : Tree) → Spells names Whole 64 ts e [] → reading names ts ≡ Some (fit e)
 unfolding reading

@@ -15,3 +15,7 @@ pub mod Unquoted
 pub mod Written
 pub mod QuotedCut
 pub mod Again
+pub mod OverLemmas
+pub mod NamesRead
+pub mod TreeLaws
+pub mod WithinLimits

@@ -27,7 +27,7 @@ abbrev pub Names : Type 0
 Names = List (List ℕ)
 
 -- names come behind those that are there
-with_more : (names more : Names) → (rest : Names) × (with_names names more ≡ names ++ rest)
+pub with_more : (names more : Names) → (rest : Names) × (with_names names more ≡ names ++ rest)
 with_more names [] = ([], sym (append-nil names))
 with_more names (name ∷ more) =
     elim (nat_lt (place_of names name) (length names)) as (λ b. (rest : Names) × (with_names (if b then names else names ++ name ∷ []) more ≡ names ++ rest)) [
@@ -126,7 +126,7 @@ few_mentions least_member = omega arith
 few_mentions greatest_member = omega arith
 
 -- one more than the greatest number
-abbrev top : List ℕ → ℕ
+abbrev pub top : List ℕ → ℕ
 top [] = 0
 top (k ∷ ks) = max (k + 1) (top ks)
 
@@ -134,7 +134,7 @@ top_append : (xs ys : List ℕ) → top (xs ++ ys) ≡ max (top xs) (top ys)
 top_append [] ys = omega arith
 top_append (x ∷ xs) ys = let h = top_append xs ys in omega arith
 
-name_count_is : (e : Tree) → name_count e ≡ top (mentions e)
+pub name_count_is : (e : Tree) → name_count e ≡ top (mentions e)
 name_count_is (number z) = refl
 name_count_is (words text) = refl
 name_count_is (given k) = omega arith
@@ -159,7 +159,7 @@ operator_is : (t : Token) (op : Op) (ts : List Token) → operator t ≡ Some op
 operator_is (Name name) op ts h = absurd (cc)
 operator_is t op ts h = refl
 
-level_operator : (L : Level) (o : Option Op) (op : Op) → at_level L o ≡ Some op → (op' : Op) × (o ≡ Some op')
+pub level_operator : (L : Level) (o : Option Op) (op : Op) → at_level L o ≡ Some op → (op' : Op) × (o ≡ Some op')
 level_operator L None op h = absurd (cc)
 level_operator L (Some op') op h = (op', refl)
 
@@ -167,7 +167,7 @@ join_is : (L : Level) (t : Token) (op : Op) (ts : List Token) → joins L t ≡ 
 join_is L t op ts h = let o = level_operator L (operator t) op h in operator_is t o.0 ts o.1
 
 module _ (names : Names) where
-  abbrev places : List Token → List ℕ
+  abbrev pub places : List Token → List ℕ
   places ts = map (place_of names) (names_among ts)
 
   two : (xs ys us vs rest : List ℕ) → xs ++ us ≡ vs → ys ++ rest ≡ us → (xs ++ ys) ++ rest ≡ vs
@@ -196,7 +196,7 @@ module _ (names : Names) where
   spelled_mentions (as_tighter s) = spelled_mentions s
 
   -- the names of a whole text are no more than the nodes of its tree
-  whole_mentions : {L : Level} {d : ℕ} {ts : List Token} {e : Tree} → Spells names L d ts e [] → mentions e ≡ places ts
+  pub whole_mentions : {L : Level} {d : ℕ} {ts : List Token} {e : Tree} → Spells names L d ts e [] → mentions e ≡ places ts
   whole_mentions {e = e} s = sym (append-nil (mentions e)) ∙ spelled_mentions s
 
   pub few_names : {L : Level} {d : ℕ} {ts : List Token} {e : Tree} → names ≡ with_names [] (names_among ts) → Spells names L d ts e [] → length names ≤ nodes e
@@ -214,7 +214,7 @@ module _ (names : Names) where
 abbrev pub Apart : Names → Type 0
 Apart names = (k : ℕ) → k < length names → place_of names (name_at names k) ≡ k
 
-place_append : (names more : Names) (name : List ℕ) → place_of names name < length names → place_of (names ++ more) name ≡ place_of names name
+pub place_append : (names more : Names) (name : List ℕ) → place_of names name < length names → place_of (names ++ more) name ≡ place_of names name
 place_append [] more name h = absurd (omega arith)
 place_append (other ∷ names) more name h =
     elim (not (bytes_eq other name)) as (λ b. cond b (1 + place_of names name) 0 < length (other ∷ names) → cond b (1 + place_of (names ++ more) name) 0 ≡ cond b (1 + place_of names name) 0) [
@@ -222,11 +222,11 @@ place_append (other ∷ names) more name h =
       | false ↦ λ g. refl
     ] h
 
-same_bytes : (name : List ℕ) → bytes_eq name name ≡ true
+pub same_bytes : (name : List ℕ) → bytes_eq name name ≡ true
 same_bytes [] = refl
 same_bytes (b ∷ name) = and_from (b == b) (bytes_eq name name) (eq-eqb b b refl) (same_bytes name)
 
-place_new : (names : Names) (name : List ℕ) → length names ≤ place_of names name → place_of (names ++ name ∷ []) name ≡ length names
+pub place_new : (names : Names) (name : List ℕ) → length names ≤ place_of names name → place_of (names ++ name ∷ []) name ≡ length names
 place_new [] name h = ap (λ (b : Bool). cond (not b) 1 0) (same_bytes name)
 place_new (other ∷ names) name h =
     elim (not (bytes_eq other name)) as (λ b. length (other ∷ names) ≤ cond b (1 + place_of names name) 0 → cond b (1 + place_of (names ++ name ∷ []) name) 0 ≡ length (other ∷ names)) [

@@ -17,6 +17,7 @@ use Rattle.svc_expr.specs.Quoted.{unquoted}
 use Rattle.svc_expr.specs.Grammar.{tighter, joins, IsLeft, formed, aggregated, call_of, aggregate_of, place_of, Spells, whole_number, negative_number, quoted_text, named, in_brackets, call, member_call, negation, joined, comparison, denial, if_then_else, as_tighter}
 use Rattle.svc_expr.specs.Reading.{naming, Part, Read, ◌>>=◌, formed_part, pair_part, choice_part, after_close, words_at, negative_at, aggregate_at, called_at, call_at, operand_at, unary_at, with_op, chain, chained, product_at, sum_at, compared_at, comparison_at, denial_at, conjunction_at, disjunction_at, else_at, then_at, whole_at, level_at, inner}
 use Rattle.svc_expr.proofs.Sizes.{Keeps}
+use Rattle.svc_expr.proofs.Unquoted.{read_is_literal}
 
 abbrev pub Pair : Type 0
 Pair = Part × List Token
@@ -71,7 +72,7 @@ module _ (keep : Tree → Part) (keeps : Keeps keep) (names : List (List ℕ)) w
     negative_sound ts y h = absurd (cc)
 
     words_sound : (o : Option (List ℕ)) (raw : List ℕ) (rest : List Token) (y : Pair) → unquoted raw ≡ o → words_at keep o rest ≡ Some y → Found Operand d (Quoted raw ∷ rest) y
-    words_sound (Some text) raw rest y q h = at_rest Operand d (Quoted raw ∷ rest) rest (words text) y (quoted_text q) (keep (words text)) refl (some_is (keep (words text), rest) y h)
+    words_sound (Some text) raw rest y q h = at_rest Operand d (Quoted raw ∷ rest) rest (words text) y (quoted_text (read_is_literal raw text q)) (keep (words text)) refl (some_is (keep (words text), rest) y h)
     words_sound None raw rest y q h = absurd (cc)
 
     members_sound : (b : Bool) (o : Option Aggregate) (word : Keyword) (ts : List Token) (y : Pair) → (b ≡ true → d ≡ suc (less_one d)) → aggregate_of word ≡ o → aggregate_at keep b o ts ≡ Some y → Found Operand d (Word word ∷ Open ∷ ts) y

@@ -14,7 +14,7 @@ use Rattle.svc_expr.specs.Tree.{Tree, number, words, given, negated, denied, pai
 use Rattle.svc_expr.specs.Canonical.{has_bracket, name_at, IsWritable}
 use Rattle.svc_expr.specs.Grammar.{place_of, Spells, whole_number, negative_number, quoted_text, named, in_brackets, call, member_call, negation, joined, comparison, denial, if_then_else, as_tighter}
 use Rattle.svc_expr.proofs.NameLemmas.{Names}
-use Rattle.svc_expr.proofs.Unquoted.{unquoted_quoted}
+use Rattle.svc_expr.proofs.Unquoted.{quoted_is_literal}
 
 -- the token of an operator
 abbrev pub sign_of : Op → Token
@@ -129,7 +129,7 @@ module _ (names : Names) (apart : (k : ℕ) → k < length names → place_of na
   unfolding canon
   spells (number (pos n)) d rest w h = as_tighter (whole_number w)
   spells (number (negsuc n)) d rest w h = as_tighter (negative_number {n = suc n} (omega arith))
-  spells (words text) d rest w h = as_tighter (quoted_text (unquoted_quoted text w.0 w.1))
+  spells (words text) d rest w h = as_tighter (quoted_text (quoted_is_literal text w.0 w.1))
   spells (given k) d rest w h = as_tighter (subst (λ (n : ℕ). Spells names Operand d (Name (name_at names k) ∷ rest) (given n) rest) (apart k w) named)
   spells (negated a) zero rest w h = absurd (omega (arith, deep a))
   spells (negated a) (suc d) rest w h = negation (wrapped_spells (has_bracket a) (canon names a) a d rest (omega arith) (λ k us g. spells a k us w g))

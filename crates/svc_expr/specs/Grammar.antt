@@ -7,6 +7,8 @@ use Rattle.svc_token.specs.declared.keyword.Keyword.TheVariants as keyword
 use Rattle.svc_token.specs.declared.token.Token.{Token}
 use Rattle.svc_token.specs.declared.token.Token.TheVariants.{Keyword as Word, Name, Number, Quoted, Equals, Open, Close, Plus, Join, Minus, Dash, Star, Slash, Percent, Less, LessOrEqual, NotEqual, Greater, GreaterOrEqual}
 use Rattle.svc_token.specs.Cutting.{Cuts}
+use Rattle.svc_value.specs.declared.value.Value.TheVariants.{Words}
+use Rattle.svc_value.specs.Literal.{IsLiteral}
 use Rattle.svc_expr.specs.declared.expr.Op.{Op}
 use Rattle.svc_expr.specs.declared.expr.Op.TheVariants as op
 use Rattle.svc_expr.specs.declared.level.Level.{Level}
@@ -15,7 +17,6 @@ use Rattle.svc_expr.specs.declared.level.Form.{Form}
 use Rattle.svc_expr.specs.declared.level.Form.TheVariants as form
 use Rattle.svc_expr.specs.declared.level.Aggregate.{Aggregate}
 use Rattle.svc_expr.specs.declared.level.Aggregate.TheVariants as aggregate
-use Rattle.svc_expr.specs.Quoted.{unquoted}
 use Rattle.svc_expr.specs.Tree.{Tree, number, words, given, negated, denied, pair, choice, len_of, number_of, text_of, sum_of_members, count_of_members, least_member, greatest_member}
 
 -- the number of a level, from the loosest on
@@ -139,7 +140,7 @@ names_among (token ∷ tokens) = names_among tokens
 pub data Spells (names : List (List ℕ)) : Level → ℕ → List Token → Tree → List Token → Type 0 where
   whole_number : {d n : ℕ} {rest : List Token} → n < 2 ^ 63 → Spells names Operand d (Number n ∷ rest) (number (pos n)) rest
   negative_number : {d n : ℕ} {rest : List Token} → n ≤ 2 ^ 63 → Spells names Operand d (Dash ∷ Number n ∷ rest) (number (neg_ℤ (pos n))) rest
-  quoted_text : {d : ℕ} {raw text : List ℕ} {rest : List Token} → unquoted raw ≡ Some text → Spells names Operand d (Quoted raw ∷ rest) (words text) rest
+  quoted_text : {d : ℕ} {raw text : List ℕ} {rest : List Token} → IsLiteral raw (Words text) → Spells names Operand d (Quoted raw ∷ rest) (words text) rest
   named : {d : ℕ} {name : List ℕ} {rest : List Token} → Spells names Operand d (Name name ∷ rest) (given (place_of names name)) rest
   in_brackets : {d : ℕ} {ts rest : List Token} {e : Tree} → Spells names Whole d ts e (Close ∷ rest) → Spells names Operand (suc d) (Open ∷ ts) e rest
   call : {d : ℕ} {ts rest : List Token} {e : Tree} {word : Keyword} {form : Form} → call_of word ≡ Some form → Spells names Whole d ts e (Close ∷ rest) → Spells names Operand (suc d) (Word word ∷ Open ∷ ts) (formed form e) rest

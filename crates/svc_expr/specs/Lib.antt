@@ -9,3 +9,5 @@ pub mod Operand
 pub mod Types
 pub mod Typing
 pub mod formers
+pub mod Names
+pub mod Borrowed

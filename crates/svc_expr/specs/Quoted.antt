@@ -1,20 +1,16 @@
--- What a quoted text means.
-use Rattle.std.specs.Prelude.{ℕ, ◌+◌, ◌*◌, ◌<◌, ◌||◌, ◌&&◌, ◌==◌, nat_lt, nat_le, if◌then◌else◌, Option, Some, None, option_map, option_and_then, List, [], ◌∷◌, ◌++◌, length, drop}
+-- How the code reads a quoted text: byte by byte. What one means is said by `IsLiteral` of svc_value, and this finds it.
+use Rattle.std.specs.Prelude.{ℕ, ◌+◌, ◌*◌, ◌<◌, ◌&&◌, ◌==◌, nat_lt, nat_le, if◌then◌else◌, Option, Some, None, option_map, option_and_then, List, [], ◌∷◌, ◌++◌, length}
 use Rattle.std.specs.Char.{digit_value}
 use Rattle.std.specs.Str.{is_utf8}
+use Rattle.svc_value.specs.Quoted.{short_escape}
 use Rattle.svc_expr.specs.declared.quoting.Place.{Place}
 use Rattle.svc_expr.specs.declared.quoting.Place.TheVariants.{Plain, Escape, High, Low, Closed}
 
--- what a byte behind `\` makes: itself, LF or a tab, or the begin of two hexadecimal digits
+-- what a byte behind `\` makes: what they stand for, or the begin of two hexadecimal digits
 abbrev pub escaped : ℕ → Option (Place × List ℕ)
-escaped b =
-    if b == 34 || b == 92 then Some (Plain, b ∷ [])
-    else (if b == 110 then Some (Plain, 10 ∷ [])
-    else (if b == 116 then Some (Plain, 9 ∷ [])
-    else (if b == 120 then Some (High, [])
-    else None)))
+escaped b = if b == 120 then Some (High, []) else option_map (λ means. (Plain, means ∷ [])) (short_escape b)
 
--- one byte of a quoted text behind its first quote: where it leads, and the bytes that it adds to the meaning; LF ends a line and so stands in no text
+-- one byte of a quoted text behind its first quote: where it leads, and the bytes that it adds to the text; LF ends a line and so stands in no text
 abbrev pub step : Place → ℕ → Option (Place × List ℕ)
 step Plain b =
     if b == 34 then Some (Closed, [])
@@ -31,7 +27,7 @@ abbrev pub IsPlace : Place → Type 0
 IsPlace (Low high) = high < 8
 IsPlace place = Unit {0}
 
--- the meaning of the bytes from a place on, which end behind the last quote
+-- what is made of the bytes from a place on, which end behind the last quote
 abbrev pub meaning_from : Place → List ℕ → Option (List ℕ)
 meaning_from Closed [] = Some []
 meaning_from place [] = None
@@ -43,4 +39,5 @@ text_if text = if nat_le (length text) 256 && is_utf8 text then Some text else N
 
 -- the text that a quoted text means, where it means one
 unfoldable pub unquoted : List ℕ → Option (List ℕ)
-unquoted raw = option_and_then text_if (meaning_from Plain (drop 1 raw))
+unquoted [] = None
+unquoted (b ∷ inside) = if b == 34 then option_and_then text_if (meaning_from Plain inside) else None

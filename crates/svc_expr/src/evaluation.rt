@@ -6,6 +6,7 @@ ghost use Rattle.svc_expr.specs.Meaning.{IsNoText, characters, exact, has_text, 
 ghost use Rattle.svc_expr.specs.Operand.{value_of};
 ghost use Rattle.svc_expr.specs.Tree.{tree_of};
 
+use crate::borrowed::{Borrowed, borrowed_value};
 use crate::members::{greatest_of, least_of, sum_of};
 use crate::numbers::{calculate, counts_as_true, from_bool, negated};
 use crate::operand::{Operand, View};
@@ -86,6 +87,7 @@ fn pair_of(alloc: Global, op: Op, left: &Operand, right: &Operand) -> Result<Val
     }
 }
 
+// The value of a part, with the texts that are made for it.
 #[tactic(auto, using(std::proofs::lemmas::Bool::or_left, std::proofs::lemmas::Bool::or_right))]
 fn part<'a>(
     alloc: Global,
@@ -154,5 +156,10 @@ pub fn eval(
     ensures value { IfOk result (λ value. value ≡ meaning (tree_of expr.now) given.now members.now) }
     ensures no_memory { has_text (tree_of expr.now) ≡ false → All IsNoText given.now → IsOk result }
 {
-    part(alloc, expr, given, members)?.into_value()
+    match borrowed_value(expr, given, members) {
+        Borrowed::Int(number) => Ok(Value::Int(number)),
+        Borrowed::Text(text) => Ok(Value::Words(text.copy()?)),
+        Borrowed::Bad(fault) => Ok(Value::Bad(fault)),
+        Borrowed::Unknown => part(alloc, expr, given, members)?.into_value(),
+    }
 }

@@ -1,9 +1,12 @@
 // From tokens and texts to expressions.
-ghost use Rattle.std.specs.Prelude.{◌≡◌, ℕ, List, IfOk};
+ghost use Rattle.std.specs.Prelude.{◌≡◌, ℕ, List, IfOk, length};
 ghost use Rattle.std.specs.Result.{IsErrOf};
 ghost use Rattle.svc_token.specs.declared.token.Token.{Token};
+ghost use Rattle.svc_expr.specs.declared.expr.Expr.{Expr};
 ghost use Rattle.svc_expr.specs.Tree.{Tree, tree_of, IsSmall};
 ghost use Rattle.svc_expr.specs.Grammar.{IsExpression, IsReading};
+ghost use Rattle.svc_expr.specs.Names.{Differ};
+ghost use Rattle.svc_expr.specs.Types.{name_count};
 ghost use Rattle.svc_expr.specs.Small.{reading, Answers};
 
 use crate::gathering::gather;
@@ -33,9 +36,12 @@ fn read_all(alloc: Global, names: &[Name], tokens: &[Token]) -> Result<Expr, Exp
 }
 
 /// Reads the expression that the tokens are. `Bad` exactly where they are not in the grammar; `TooLarge` exactly where the
-/// tree has more than 128 nodes or a depth above 32; `OutOfMemory` for want of memory.
+/// tree has more than 128 nodes or a depth above 32; `OutOfMemory` for want of memory. The names differ, and are as many
+/// as `names_of` says.
 pub fn read_tokens(alloc: Global, tokens: &[Token]) -> Result<Reading, ExprError>
     ensures found { IfOk result (λ reading. IsExpression tokens.now (tree_of reading.expr) reading.names × IsSmall (tree_of reading.expr)) }
+    ensures count { IfOk result (λ reading. length reading.names ≡ name_count (tree_of reading.expr)) }
+    ensures differ { IfOk result (λ reading. Differ reading.names) }
     ensures bad { IsErrOf result ExprError.Bad → (e : Tree) (names : List (List ℕ)) → IsExpression tokens.now e names → ⊥ }
     ensures large { IsErrOf result ExprError.TooLarge → (e : Tree) × (names : List (List ℕ)) × IsExpression tokens.now e names × (IsSmall e → ⊥) }
 {
@@ -50,9 +56,12 @@ pub fn read_tokens(alloc: Global, tokens: &[Token]) -> Result<Reading, ExprError
 }
 
 /// Reads the expression that the text is. `Bad` exactly where it is not in the grammar; `TooLarge` exactly where the tree
-/// has more than 128 nodes or a depth above 32; `OutOfMemory` for want of memory.
+/// has more than 128 nodes or a depth above 32; `OutOfMemory` for want of memory. The names differ, and are as many as
+/// `names_of` says.
 pub fn read_expr(alloc: Global, text: &str) -> Result<Reading, ExprError>
     ensures found { IfOk result (λ reading. IsReading text.now (tree_of reading.expr) reading.names × IsSmall (tree_of reading.expr)) }
+    ensures count { IfOk result (λ reading. length reading.names ≡ name_count (tree_of reading.expr)) }
+    ensures differ { IfOk result (λ reading. Differ reading.names) }
     ensures bad { IsErrOf result ExprError.Bad → (e : Tree) (names : List (List ℕ)) → IsReading text.now e names → ⊥ }
     ensures large { IsErrOf result ExprError.TooLarge → (e : Tree) × (names : List (List ℕ)) × IsReading text.now e names × (IsSmall e → ⊥) }
 {
@@ -67,6 +76,11 @@ pub fn read_expr(alloc: Global, text: &str) -> Result<Reading, ExprError>
 /// No tokens are two expressions, and none has two lists of names.
 pub fn one_expression()
     ensures { (tokens : List Token) (a b : Tree) (n m : List (List ℕ)) → IsExpression tokens a n → IsExpression tokens b m → (a ≡ b) × (n ≡ m) }
+{}
+
+/// Two expressions with one tree are one.
+pub fn one_tree()
+    ensures { (a b : Expr) → tree_of a ≡ tree_of b → a ≡ b }
 {}
 
 /// No text is two expressions, and none has two lists of names.

@@ -2,6 +2,7 @@
 //! A fault is a value like any other, so evaluation has no refusal but want of memory.
 #![tactic(auto)]
 
+mod borrowed;
 mod boxed;
 mod copy;
 mod errors;
@@ -31,7 +32,7 @@ pub use boxed::Boxed;
 pub use errors::{ExprError, TypeErrorAt};
 pub use evaluation::eval;
 pub use expr::{Expr, ExprKind, Op, Reading};
-pub use expression::{one_expression, one_reading, read_expr, read_tokens};
+pub use expression::{one_expression, one_reading, one_tree, read_expr, read_tokens};
 pub use names::{names_of, needs_int_members};
 pub use printing::{print_expr, read_again};
 pub use types::type_of;

@@ -135,7 +135,7 @@ fn stored(alloc: Global, text: &str) -> Result<ValueText, OutOfMemory>
 pub(crate) fn unquote(alloc: Global, raw: &[u8]) -> Result<Option<ValueText>, OutOfMemory>
     ensures { IfOk result (λ text. text ≡ unquoted raw.now) }
 {
-    let [_, inside @ ..] = raw else {
+    let [b'"', inside @ ..] = raw else {
         return Ok(None);
     };
     let mut bytes = [0; LONGEST_TEXT];

@@ -1,0 +1,8 @@
+-- Lists of names.
+use Rattle.std.specs.Prelude.{ℕ, List, [], ◌∷◌}
+use Rattle.propagation.specs.Words.{Has}
+
+-- no name stands twice
+abbrev pub Differ : List (List ℕ) → Type 0
+Differ [] = Unit {0}
+Differ (name ∷ names) = (Has names name → ⊥) × Differ names
