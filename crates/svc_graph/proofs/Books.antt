@@ -5,7 +5,8 @@ use Rattle.std.proofs.Math.ListN.{get_or-append}
 use Rattle.std.proofs.Math.Seq.{get_or-append_seam}
 use Rattle.svc_graph.proofs.Naming.{Has-not_found, Differ-push}
 use Rattle.svc_graph.proofs.Accepted.{IsMore, IsDefinitionOf-more}
-use Rattle.svc_graph.specs.Book.{IsBook, IsRow, Differ}
+use Rattle.svc_expr.specs.Names.{Differ}
+use Rattle.svc_graph.specs.Book.{IsBook, IsRow}
 use Rattle.svc_graph.specs.Refusals.{kind_at}
 use Rattle.svc_graph.specs.History.{Row, kind_of, roster_of, declared_row, names_in, place_of, row_at}
 use Rattle.svc_value.specs.declared.value.ValueType.{ValueType}

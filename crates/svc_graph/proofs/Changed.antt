@@ -7,7 +7,8 @@ use Rattle.propagation.proofs.Lists.{Has-append_cases}
 use Rattle.propagation.specs.Words.{Has}
 use Rattle.svc_graph.proofs.Accepted.{brought-accepted}
 use Rattle.svc_graph.specs.Accepting.{HasForm, IsChangeOf}
-use Rattle.svc_graph.specs.Book.{Differ, IsBook, IsRow}
+use Rattle.svc_expr.specs.Names.{Differ}
+use Rattle.svc_graph.specs.Book.{IsBook, IsRow}
 use Rattle.svc_graph.specs.declared.definition.Change.{Change}
 use Rattle.svc_graph.specs.declared.definition.Change.TheVariants.{Birth, Set, Add, Drop, Define}
 use Rattle.svc_graph.specs.declared.definition.Definition.{Definition}

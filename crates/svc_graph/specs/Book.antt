@@ -1,6 +1,7 @@
 -- What always holds of the rows of a book.
-use Rattle.std.specs.Prelude.{◌≡◌, ℕ, ◌≤◌, ◌<◌, true, List, [], ◌∷◌, ◌++◌, map, length, Some}
+use Rattle.std.specs.Prelude.{◌≡◌, ℕ, ◌≤◌, ◌<◌, true, List, ◌++◌, map, length, Some}
 use Rattle.propagation.specs.Words.{Apart, Has}
+use Rattle.svc_expr.specs.Names.{Differ}
 use Rattle.svc_expr.specs.Tree.{tree_of}
 use Rattle.svc_expr.specs.Types.{takes_numbers, type_in}
 use Rattle.svc_graph.specs.Accepting.{IsProper, IsWritten}
@@ -12,11 +13,6 @@ use Rattle.svc_graph.specs.History.{Row, names_in, roster_of, row_at}
 use Rattle.svc_graph.specs.Refusals.{kind_at}
 use Rattle.svc_value.specs.Value.{HasType}
 use Rattle.svc_value.specs.declared.value.ValueType.TheVariants.{Int}
-
--- no text stands twice
-abbrev pub Differ : List (List ℕ) → Type 0
-Differ [] = Unit {0}
-Differ (name ∷ names) = (Has names name → ⊥) × Differ names
 
 -- service p is declared and has a lower rank than n
 pub record IsBelow (kinds : List Kind) (n p : ℕ) : Type 0 where
