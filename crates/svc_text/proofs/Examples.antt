@@ -1,17 +1,18 @@
 -- The definitions at some documents.
-use Rattle.std.proofs.Common.{◌≡◌, true, false, List, [], ◌∷◌, refl}
+use Rattle.std.proofs.Common.{◌≡◌, [], ◌∷◌, Some, None, refl}
 use Rattle.std.specs.Prelude.{codes, pos, map, length}
-use Rattle.svc_value.specs.declared.value.Value.TheVariants.{Int}
+use Rattle.svc_value.specs.declared.value.Value.TheVariants.{Int, Words}
 use Rattle.svc_value.specs.declared.value.ValueType.TheVariants as type
-use Rattle.svc_text.specs.declared.statement.Statement.{Statement}
-use Rattle.svc_text.specs.declared.statement.Statement.TheVariants.{Silence, Input, Derived, Set, Settle}
+use Rattle.svc_text.specs.declared.plan.Mode.TheVariants.{Plain, Step}
+use Rattle.svc_text.specs.declared.refusal.Code.TheVariants.{E05, E07, E08, E10, E12, E14, E18}
+use Rattle.svc_text.specs.declared.statement.Body.TheVariants.{TooLarge}
+use Rattle.svc_text.specs.declared.statement.Statement.TheVariants.{Silence, Input, Derived, Set, Add, Define, Settle, Do}
 use Rattle.svc_text.specs.Document.{lines_of}
-use Rattle.svc_text.specs.Grammar.{sum_of}
-use Rattle.svc_text.specs.Legs.{legs_of, services}
-use Rattle.svc_text.specs.Refusals.{is_refused}
+use Rattle.svc_text.specs.Refusals.{refusal}
 use Rattle.svc_text.specs.Rows.{rows_after_all}
+use Rattle.svc_text.specs.State.{State, start, next, legs_in}
 
--- a last line without its LF, and an empty line
+-- a last line without its LF, and empty lines
 two_lines : lines_of (97 ∷ 10 ∷ 98 ∷ []) ≡ (97 ∷ []) ∷ (98 ∷ []) ∷ []
 two_lines = refl
 
@@ -21,40 +22,59 @@ empty_lines = refl
 no_lines : lines_of [] ≡ []
 no_lines = refl
 
-abbrev total : Statement
-total = Derived (codes "total") type.Int 1 (record { expr = sum_of 0 1; names = codes "a" ∷ codes "b" ∷ []; members = [] })
+-- two inputs, a settle, and a new value
+abbrev inputs : State
+inputs = next (next (start [] 0) (Input (codes "a") type.Int (Int (pos 3)))) (Input (codes "t") type.Text (Words (codes "x")))
 
-abbrev document : List Statement
-document = Set (codes "a") (Int (pos 5)) ∷ Settle ∷ Silence ∷ total ∷ Input (codes "b") type.Int (Int (pos 4)) ∷ Input (codes "a") type.Int (Int (pos 3)) ∷ []
+abbrev after : State
+after = next (next (next inputs Settle) Silence) (Set (codes "a") (Int (pos 5)))
 
--- a set after the settle is a leg of its own, whose settle is implied
-leg_changes : map (λ leg. length leg.changes) (legs_of document) ≡ 3 ∷ 1 ∷ []
+-- a set after the settle is in a leg of its own, whose settle is implied
+leg_changes : map (λ leg. length leg.changes) (legs_in after) ≡ 2 ∷ 1 ∷ []
 leg_changes = refl
 
-leg_services : map (λ leg. length leg.services) (legs_of document) ≡ 3 ∷ 0 ∷ []
+leg_services : map (λ leg. length leg.services) (legs_in after) ≡ 2 ∷ 0 ∷ []
 leg_services = refl
 
-histories : map (λ row. length row.history) (rows_after_all [] (legs_of document)) ≡ 2 ∷ 1 ∷ 1 ∷ []
+histories : map (λ row. length row.history) (rows_after_all [] (legs_in after)) ≡ 2 ∷ 1 ∷ []
 histories = refl
 
-names : map (λ row. row.name) (services document) ≡ codes "a" ∷ codes "b" ∷ codes "total" ∷ []
+names : map (λ row. row.name) after.rows ≡ codes "a" ∷ codes "t" ∷ []
 names = refl
 
--- refusals: a name declared twice, a name before its declaration, a sum over a sum, a set of a derived service
-declared_twice : is_refused document (Input (codes "b") type.Int (Int (pos 4))) ≡ true
+line_count : after.lines ≡ 5
+line_count = refl
+
+-- refusals, with the least code
+declared_twice : refusal Plain after (Input (codes "t") type.Int (Words [])) ≡ Some E05
 declared_twice = refl
 
-not_declared : is_refused document (Set (codes "c") (Int (pos 4))) ≡ true
+rank_first : refusal Plain after (Derived (codes "d") type.Int 0 TooLarge) ≡ Some E07
+rank_first = refl
+
+too_large : refusal Plain after (Derived (codes "d") type.Int 1 TooLarge) ≡ Some E12
+too_large = refl
+
+too_large_of_nothing : refusal Plain after (Define (codes "q") TooLarge) ≡ Some E12
+too_large_of_nothing = refl
+
+not_declared : refusal Plain after (Set (codes "c") (Int (pos 4))) ≡ Some E08
 not_declared = refl
 
-sum_of_sum : is_refused document (Derived (codes "t") type.Int 1 (record { expr = sum_of 0 0; names = codes "total" ∷ []; members = [] })) ≡ true
-sum_of_sum = refl
+wrong_type : refusal Plain after (Set (codes "t") (Int (pos 4))) ≡ Some E10
+wrong_type = refl
 
-set_of_sum : is_refused document (Set (codes "total") (Int (pos 4))) ≡ true
-set_of_sum = refl
+member_of_input : refusal Plain after (Add (codes "a") (codes "t")) ≡ Some E14
+member_of_input = refl
 
-set_of_input : is_refused document (Set (codes "b") (Int (pos 4))) ≡ false
-set_of_input = refl
+step_line : refusal Plain after (Do (codes "a")) ≡ Some E18
+step_line = refl
 
-empty_leg_accepted : is_refused document Settle ≡ false
+step_line_in_its_mode : refusal Step after (Do (codes "a")) ≡ None
+step_line_in_its_mode = refl
+
+right_type : refusal Plain after (Set (codes "t") (Words [])) ≡ None
+right_type = refl
+
+empty_leg_accepted : refusal Plain after Settle ≡ None
 empty_leg_accepted = refl

@@ -1,35 +1,13 @@
 -- Rows that grow: by services and by changes.
-use Rattle.std.proofs.Common.{◌≡◌, ◌≢◌, ℕ, zero, suc, ◌<◌, List, [], ◌∷◌, ◌++◌, length, refl, ap, arith}
+use Rattle.std.proofs.Common.{◌≡◌, ◌≢◌, ℕ, zero, suc, ◌+◌, ◌<◌, ◌≤◌, List, [], ◌∷◌, ◌++◌, length, length-append, Option, Some, None, refl, ap, arith}
 use Rattle.std.specs.Prelude.{map, drop}
 use Rattle.svc_graph.specs.declared.definition.Change.{Change}
-use Rattle.svc_graph.specs.History.{Row, grown, changed, declared_row, names_in, row_at}
-
--- ---- rows without their definitions
-
-abbrev pub bare : Row → Row
-bare row = declared_row row.name row.rank row.ty
-
-pub bare-changed : (rows : List Row) (n : ℕ) (change : Change) → map bare (changed rows n change) ≡ map bare rows
-bare-changed [] n change = refl
-bare-changed (row ∷ rows) zero change = refl
-bare-changed (row ∷ rows) (suc n) change = ap (λ (rs : List Row). bare row ∷ rs) (bare-changed rows n change)
-
-pub names_in-bare : (rows : List Row) → names_in (map bare rows) ≡ names_in rows
-names_in-bare [] = refl
-names_in-bare (row ∷ rows) = ap (λ (ns : List (List ℕ)). row.name ∷ ns) (names_in-bare rows)
-
-pub row_at-bare : (rows : List Row) (n : ℕ) → row_at (map bare rows) n ≡ bare (row_at rows n)
-row_at-bare [] n = refl
-row_at-bare (row ∷ rows) zero = refl
-row_at-bare (row ∷ rows) (suc n) = row_at-bare rows n
-
-pub length-bare : (rows : List Row) → length (map bare rows) ≡ length rows
-length-bare [] = refl
-length-bare (row ∷ rows) = ap suc (length-bare rows)
-
-pub bare-append : (rows more : List Row) → map bare (rows ++ more) ≡ map bare rows ++ map bare more
-bare-append [] more = refl
-bare-append (row ∷ rows) more = ap (λ (rs : List Row). bare row ∷ rs) (bare-append rows more)
+use Rattle.svc_graph.specs.declared.definition.Change.TheVariants.{Birth}
+use Rattle.svc_graph.specs.declared.definition.Definition.{Definition}
+use Rattle.svc_graph.specs.History.{Row, brought, grown, changed, history_of, present, row_at}
+use Rattle.svc_text.specs.declared.plan.ServiceLine.{ServiceLine}
+use Rattle.svc_text.specs.Rows.{row_of, with_services}
+use Rattle.svc_text.specs.Rows.{EachBorn}
 
 -- ---- more rows behind
 
@@ -37,10 +15,6 @@ pub changed-append : (rows more : List Row) (n : ℕ) (change : Change) → n < 
 changed-append [] more n change h = absurd (omega arith)
 changed-append (row ∷ rows) more zero change h = refl
 changed-append (row ∷ rows) more (suc n) change h = ap (λ (rs : List Row). row ∷ rs) (changed-append rows more n change (omega arith))
-
-pub changed-last : (rows : List Row) (row : Row) (change : Change) → changed (rows ++ row ∷ []) (length rows) change ≡ rows ++ grown row change ∷ []
-changed-last [] row change = refl
-changed-last (first ∷ rows) row change = ap (λ (rs : List Row). first ∷ rs) (changed-last rows row change)
 
 pub row_at-append : (rows more : List Row) (n : ℕ) → n < length rows → row_at (rows ++ more) n ≡ row_at rows n
 row_at-append [] more n h = absurd (omega arith)
@@ -51,17 +25,26 @@ pub row_at-last : (rows : List Row) (row : Row) → row_at (rows ++ row ∷ []) 
 row_at-last [] row = refl
 row_at-last (first ∷ rows) row = row_at-last rows row
 
+pub long-append : (rows more : List Row) (n : ℕ) → n < length rows → n < length (rows ++ more)
+long-append rows more n h = omega (arith, length-append rows more, h)
+
+pub last_within : (rows : List Row) (row : Row) → length rows < length (rows ++ row ∷ [])
+last_within rows row = omega (arith, length-append rows (row ∷ []))
+
+pub changed-last : (rows : List Row) (row : Row) (change : Change) → changed (rows ++ row ∷ []) (length rows) change ≡ rows ++ grown row change ∷ []
+changed-last [] row change = refl
+changed-last (first ∷ rows) row change = ap (λ (rs : List Row). first ∷ rs) (changed-last rows row change)
+
 -- ---- births
 
--- each row has a definition
-abbrev pub EachBorn : List Row → Type 0
-EachBorn [] = Unit {0}
-EachBorn (row ∷ rows) = (row.history ≢ []) × EachBorn rows
-
-pub born_at : (rows : List Row) (n : ℕ) → EachBorn rows → n < length rows → (row_at rows n).history ≢ []
+pub born_at : (rows : List Row) (n : ℕ) → EachBorn rows → n < length rows → history_of rows n ≢ []
 born_at [] n b h = absurd (omega arith)
 born_at (row ∷ rows) zero b h = b.0
 born_at (row ∷ rows) (suc n) b h = born_at rows n b.1 (omega arith)
+
+pub each_born : (rows : List Row) → ((n : ℕ) → n < length rows → history_of rows n ≢ []) → EachBorn rows
+each_born [] h = tt
+each_born (row ∷ rows) h = (h 0 (omega arith), each_born rows (λ n k. h (suc n) (omega arith)))
 
 not_nil : {A : Type 0} (xs ys : List A) → xs ≢ [] → xs ++ ys ≢ []
 not_nil [] ys h e = h refl
@@ -80,3 +63,29 @@ pub born-drop : (n : ℕ) (rows : List Row) → EachBorn rows → EachBorn (drop
 born-drop zero rows b = b
 born-drop (suc n) [] b = tt
 born-drop (suc n) (row ∷ rows) b = born-drop n rows b.1
+
+-- ---- clocks
+
+length_brought : (last : Option Definition) (change : Change) → length (brought last change) ≤ 1
+length_brought None (Birth first) = omega arith
+length_brought None change = omega arith
+length_brought (Some last) change = omega arith
+
+-- a change brings at most one definition
+pub clock-changed : (rows : List Row) (n m : ℕ) (change : Change) → length (history_of (changed rows n change) m) ≤ length (history_of rows m) + 1
+clock-changed [] n m change = omega arith
+clock-changed (row ∷ rows) zero zero change = rw length-append (omega (arith, length_brought (present row.history) change))
+clock-changed (row ∷ rows) zero (suc m) change = omega arith
+clock-changed (row ∷ rows) (suc n) zero change = omega arith
+clock-changed (row ∷ rows) (suc n) (suc m) change = clock-changed rows n m change
+
+clock-new : (lines : List ServiceLine) (m : ℕ) → length (history_of (map row_of lines) m) ≤ 0
+clock-new [] m = omega arith
+clock-new (line ∷ lines) zero = omega arith
+clock-new (line ∷ lines) (suc m) = clock-new lines m
+
+-- a service more brings none
+pub clock-services : (rows : List Row) (lines : List ServiceLine) (m : ℕ) → length (history_of (with_services rows lines) m) ≤ length (history_of rows m)
+clock-services [] lines m = clock-new lines m
+clock-services (row ∷ rows) lines zero = omega arith
+clock-services (row ∷ rows) lines (suc m) = clock-services rows lines m

@@ -1,349 +1,221 @@
--- The legs of accepted statements can be taken.
-use Rattle.std.proofs.Common.{◌≡◌, ◌≢◌, ℕ, ◌+◌, ◌*◌, ◌<◌, ◌≤◌, Bool, true, false, List, [], ◌∷◌, ◌++◌, length, length-append, get_or, refl, sym, ap, subst, ◌∙◌, arith, append_assoc, ⊎_elim}
-use Rattle.std.specs.Prelude.{map, drop, ◌==◌, nat_le, All, if◌then◌else◌}
-use Rattle.std.specs.List.{list_any, position}
+-- The legs of an accepted document can be taken.
+use Rattle.std.proofs.Common.{◌≡◌, ◌≢◌, ℕ, ◌+◌, ◌<◌, ◌≤◌, Bool, true, false, List, [], ◌∷◌, ◌++◌, length, length-append, Option, Some, None, refl, sym, ap, subst, ◌∙◌, arith, append_assoc}
+use Rattle.std.specs.Prelude.{map, drop, position, is_some, ◌&&◌, ◌||◌, nat_lt, nat_le, All, if◌then◌else◌}
 use Rattle.std.specs.Str.{bytes_eq}
-use Rattle.std.proofs.lemmas.Bool.{eqb-true, leb-false, ltb-false}
+use Rattle.std.proofs.lemmas.Bool.{leb-false, ltb-false}
 use Rattle.std.proofs.lemmas.List.{append-nil}
 use Rattle.std.proofs.lemmas.List.Elements.{All-cons, All-nil}
-use Rattle.propagation.specs.Words.{Apart}
-use Rattle.svc_graph.specs.declared.definition.Change.TheVariants as change
-use Rattle.svc_graph.specs.declared.definition.Definition.{Definition}
-use Rattle.svc_graph.specs.declared.definition.Definition.TheVariants as definition
-use Rattle.svc_graph.specs.History.{Row, changed, grown, names_in, place_of, row_at}
 use Rattle.svc_graph.proofs.Apart.{or_left, or_right}
-use Rattle.svc_graph.proofs.Changed.{length-changed, names_in-changed}
+use Rattle.svc_graph.specs.History.{Row, names_in, place_of}
 use Rattle.svc_token.specs.Word.{IsName}
-use Rattle.svc_value.specs.declared.value.Value.{Value}
-use Rattle.svc_value.specs.declared.value.ValueType.{ValueType}
-use Rattle.svc_value.specs.declared.value.ValueType.TheVariants as type
 use Rattle.svc_text.specs.declared.plan.Leg.{Leg}
 use Rattle.svc_text.specs.declared.plan.Mode.{Mode}
 use Rattle.svc_text.specs.declared.plan.PlanChange.{PlanChange}
 use Rattle.svc_text.specs.declared.plan.ServiceLine.{ServiceLine}
-use Rattle.svc_text.specs.declared.statement.NamedFormula.{NamedFormula}
+use Rattle.svc_text.specs.declared.statement.Body.TheVariants.{Formula, TooLarge}
 use Rattle.svc_text.specs.declared.statement.Statement.{Statement}
-use Rattle.svc_text.specs.declared.statement.Statement.TheVariants.{Silence, Input, Derived, Set, Settle}
-use Rattle.svc_text.specs.Document.{Accepts, nothing, one_more, HasLegs}
-use Rattle.svc_text.specs.Legs.{row_of, number_of, formula_of}
-use Rattle.svc_text.specs.Refusals.{is_declared, rank_of, is_unknown, is_no_lower}
-use Rattle.svc_text.specs.Rows.{with_services, with_changes, rows_after_all, IsServiceAfter, AreServicesAfter, IsBornInput, IsUnborn, IsWhole, IsSum, two, double, IsChangeAfter, AreChangesAfter, IsLegAfter, AreLegsAfter}
-use Rattle.svc_text.specs.State.{State, start, next, state_after}
-use Rattle.svc_text.proofs.AcceptLemmas.{Held, held-changed, held-last, changes_accepted}
-use Rattle.svc_text.proofs.LegLemmas.{born-more, change_within, with_changes-append, changes-append, with_changes-last, changes-last, with_services-last, services-last, rows_after_all-last, legs-last}
-use Rattle.svc_text.proofs.RowLemmas.{bare, bare-changed, names_in-bare, row_at-bare, length-bare, bare-append, changed-last, row_at-last, EachBorn, born_at, born-changed, born-append, born-drop}
-use Rattle.svc_text.proofs.ServedLemmas.{IsSummed, both, one, Served, said_served, Fits, fits_of, not_false, none_of, named, one_name}
-use Rattle.svc_text.proofs.TakingLemmas.{refuses_is, legs_are}
+use Rattle.svc_text.specs.declared.statement.Statement.TheVariants.{Silence, Input, Derived, Set, Add, Drop, Define, Settle}
+use Rattle.svc_text.specs.Document.{lines_of, Reads, ends, line}
+use Rattle.svc_text.specs.Refusals.{is_past_legs}
+use Rattle.svc_text.specs.Rows.{row_of, with_services, with_changes, rows_after_all, IsServiceAfter, AreServicesAfter, AreAcceptedAfter, IsLegAfter, AreLegsAfter}
+use Rattle.svc_text.specs.Sound.{IsStart, IsSound}
+use Rattle.svc_text.specs.State.{State, start, next, said, declares, changes, legs_in}
+use Rattle.svc_text.proofs.FitLemmas.{Fits, fits_of, changes_accepted}
+use Rattle.svc_text.proofs.LegLemmas.{services-append, with_services-append, rows_after_all-last, legs-last, names_in-with_changes, length-with_changes}
+use Rattle.svc_text.proofs.MoreLemmas.{accepted-more, with_changes-more, with_changes-append, accepted-append}
+use Rattle.svc_text.proofs.ProperLemmas.{DeclaresName, said_proper, said_named}
+use Rattle.svc_text.proofs.ReadingLemmas.{reads-last}
+use Rattle.svc_text.specs.Rows.{EachBorn}
+use Rattle.svc_text.proofs.RowLemmas.{each_born, born-drop}
+use Rattle.svc_text.proofs.SoundLemmas.{size, size-append, size_lines, born_reads, sound_here}
 
 -- ---- the rows of a state
 
--- those of the ended legs, those with the services of the open leg, and those after its changes
-abbrev base : State → List Row
-base s = rows_after_all [] s.ended
+-- those of the ended legs, and those with the services of the open leg
+abbrev base : List Row → State → List Row
+base rows s = rows_after_all rows s.ended
 
-abbrev opened : State → List Row
-opened s = with_services (base s) s.open_leg.services
-
-abbrev now : State → List Row
-now s = with_changes (opened s) s.open_leg.changes
+abbrev opened : List Row → State → List Row
+opened rows s = with_services (base rows s) s.open_leg.services
 
 -- all that the legs of a state so far need to be taken
-record Stands (s : State) : Type 0 where
-  ended : AreLegsAfter [] s.ended
-  few_legs : length s.ended ≤ 1000
-  held : Held (base s) (1024 * length s.ended)
-  services : AreServicesAfter (base s) s.open_leg.services
-  changes : AreChangesAfter (opened s) s.open_leg.changes
-  few_changes : length s.open_leg.changes ≤ 1024
-  more_legs : s.is_open ≡ true → length s.ended < 1000
-  rows : map bare (now s) ≡ s.rows
-  born : EachBorn (now s)
+pub record Stands (rows : List Row) (before : ℕ) (s : State) : Type 0 where
+  pub ended : AreLegsAfter rows s.ended
+  pub services : AreServicesAfter (base rows s) s.open_leg.services
+  pub accepted : AreAcceptedAfter (opened rows s) s.open_leg.changes
+  pub few : length s.open_leg.changes ≤ 1024
+  pub now : with_changes (opened rows s) s.open_leg.changes ≡ s.rows
+  pub before_is : s.before ≡ before
+  pub few_legs : before + length s.ended ≤ 1000
+  pub more_legs : s.is_open ≡ true → before + length s.ended < 1000
 
-at_start : Stands start
-at_start = record {
+at_start : (rows : List Row) (before : ℕ) → before ≤ 1000 → Stands rows before (start rows before)
+at_start rows before h = record {
   ended = tt;
-  few_legs = omega arith;
-  held = record { types = λ n. refl; clocks = λ n. omega arith };
   services = tt;
-  changes = tt;
-  few_changes = omega arith;
-  more_legs = λ h. absurd (cc);
-  rows = refl;
-  born = tt;
+  accepted = tt;
+  few = omega arith;
+  now = append-nil rows;
+  before_is = refl;
+  few_legs = omega (arith, h);
+  more_legs = λ is. absurd (cc);
 }
 
--- ---- what the rows of a state are
+-- ---- what stands where a statement is not refused
 
-names_in-with_changes : (rows : List Row) (changes : List PlanChange) → names_in (with_changes rows changes) ≡ names_in rows
-names_in-with_changes rows [] = refl
-names_in-with_changes rows (c ∷ changes) = names_in-with_changes (changed rows c.id c.change) changes ∙ names_in-changed rows c.id c.change
-
-length-with_changes : (rows : List Row) (changes : List PlanChange) → length (with_changes rows changes) ≡ length rows
-length-with_changes rows [] = refl
-length-with_changes rows (c ∷ changes) = length-with_changes (changed rows c.id c.change) changes ∙ length-changed rows c.id c.change
-
-module _ (s : State) (h : Stands s) where
-  names_now : names_in (opened s) ≡ names_in s.rows
-  names_now = sym (names_in-with_changes (opened s) s.open_leg.changes) ∙ sym (names_in-bare (now s)) ∙ ap names_in h.rows
-
-  length_now : length (now s) ≡ length s.rows
-  length_now = sym (length-bare (now s)) ∙ ap length h.rows
-
-  length_opened : length (opened s) ≡ length s.rows
-  length_opened = sym (length-with_changes (opened s) s.open_leg.changes) ∙ length_now
-
-  rank_now : (n : ℕ) → (row_at (now s) n).rank ≡ (row_at s.rows n).rank
-  rank_now n = ap (λ (row : Row). row.rank) (sym (row_at-bare (now s) n) ∙ ap (λ (rows : List Row). row_at rows n) h.rows)
-
-  -- a declared name of rank 0 is an input with a value
-  input_named : (name : List ℕ) → is_declared s.rows name ≡ true → rank_of s.rows name ≡ 0 → IsBornInput (now s) (number_of s.rows name)
-  input_named name k e =
-      let at = named s.rows name k in
-      let within : number_of s.rows name < length (now s) = subst (λ (n : ℕ). number_of s.rows name < n) (sym length_now) at.within in
-      record {
-        declared = within;
-        input = rank_now (number_of s.rows name) ∙ e;
-        born = born_at (now s) (number_of s.rows name) h.born within;
-      }
-
--- ---- one change more
-
-with_change : (s : State) → Stands s → length s.ended < 1000 → length s.open_leg.changes < 1024 → (c : PlanChange) → IsChangeAfter (now s) c.id c.change
-    → Stands (record {
-      rows = s.rows;
-      ended = s.ended;
-      open_leg = record { services = s.open_leg.services; changes = s.open_leg.changes ++ c ∷ []; steps = s.open_leg.steps };
-      is_open = true;
-    })
-with_change s h legs room c k = record {
-  ended = h.ended;
-  few_legs = h.few_legs;
-  held = h.held;
-  services = h.services;
-  changes = changes-last (opened s) s.open_leg.changes c h.changes k;
-  few_changes = rw length-append (omega arith);
-  more_legs = λ _. legs;
-  rows = ap (map bare) after ∙ bare-changed (now s) c.id c.change ∙ h.rows;
-  born = subst EachBorn (sym after) (born-changed (now s) c.id c.change h.born);
-}
-  where
-    after : with_changes (opened s) (s.open_leg.changes ++ c ∷ []) ≡ changed (now s) c.id c.change
-    after = with_changes-last (opened s) s.open_leg.changes c
-
--- ---- one service more, with its birth
-
-with_birth : (s : State) → Stands s → length s.ended < 1000 → length s.open_leg.changes < 1024 → (line : ServiceLine) (d : Definition)
-    → IsServiceAfter (opened s) line → IsChangeAfter (now s ++ row_of line ∷ []) (length s.rows) (change.Birth d)
-    → Stands (record {
-      rows = s.rows ++ row_of line ∷ [];
-      ended = s.ended;
-      open_leg = record {
-        services = s.open_leg.services ++ line ∷ [];
-        changes = s.open_leg.changes ++ record { id = length s.rows; change = change.Birth d } ∷ [];
-        steps = s.open_leg.steps;
-      };
-      is_open = true;
-    })
-with_birth s h legs room line d l k = record {
-  ended = h.ended;
-  few_legs = h.few_legs;
-  held = h.held;
-  services = services-last (base s) s.open_leg.services line h.services l;
-  changes = subst (λ (rows : List Row). AreChangesAfter rows (s.open_leg.changes ++ birth ∷ [])) (sym more)
-      (changes-last (opened s ++ row_of line ∷ []) s.open_leg.changes birth (changes-append (opened s) (row_of line ∷ []) s.open_leg.changes h.changes)
-      (subst (λ (rows : List Row). IsChangeAfter rows (length s.rows) (change.Birth d)) (sym behind) k));
-  few_changes = rw length-append (omega arith);
-  more_legs = λ _. legs;
-  rows = ap (map bare) after ∙ bare-append (now s) (grown (row_of line) (change.Birth d) ∷ []) ∙ ap (λ (rows : List Row). rows ++ row_of line ∷ []) h.rows;
-  born = subst EachBorn (sym after) (born-append (now s) (grown (row_of line) (change.Birth d)) h.born (λ e. cc));
-}
-  where
-    birth : PlanChange
-    birth = record { id = length s.rows; change = change.Birth d }
-
-    more : with_services (base s) (s.open_leg.services ++ line ∷ []) ≡ opened s ++ row_of line ∷ []
-    more = with_services-last (base s) s.open_leg.services line
-
-    behind : with_changes (opened s ++ row_of line ∷ []) s.open_leg.changes ≡ now s ++ row_of line ∷ []
-    behind = with_changes-append (opened s) (row_of line ∷ []) s.open_leg.changes h.changes
-
-    after : with_changes (with_services (base s) (s.open_leg.services ++ line ∷ [])) (s.open_leg.changes ++ birth ∷ [])
-        ≡ now s ++ grown (row_of line) (change.Birth d) ∷ []
-    after =
-        ap (λ (rows : List Row). with_changes rows (s.open_leg.changes ++ birth ∷ [])) more
-        ∙ with_changes-last (opened s ++ row_of line ∷ []) s.open_leg.changes birth
-        ∙ ap (λ (rows : List Row). changed rows (length s.rows) (change.Birth d)) behind
-        ∙ ap (λ (n : ℕ). changed (now s ++ row_of line ∷ []) n (change.Birth d)) (sym (length_now s h))
-        ∙ changed-last (now s) (row_of line) (change.Birth d)
-
--- ---- the end of a leg
-
-held-services : (rows : List Row) (most : ℕ) (lines : List ServiceLine) → AreServicesAfter rows lines → Held rows most → Held (with_services rows lines) most
-held-services rows most [] h k = subst (λ (rs : List Row). Held rs most) (sym (append-nil rows)) k
-held-services rows most (line ∷ lines) h k =
-    subst (λ (rs : List Row). Held rs most) (append_assoc rows (row_of line ∷ []) (map row_of lines))
-    (held-services (with_services rows (line ∷ [])) most lines h.1 (held-last rows most line h.0.ty k))
-
-held-changes : (rows : List Row) (most : ℕ) (changes : List PlanChange) → AreChangesAfter rows changes → Held rows most → Held (with_changes rows changes) (most + length changes)
-held-changes rows most [] h k = record { types = k.types; clocks = λ n. let c = k.clocks n in omega arith }
-held-changes rows most (c ∷ changes) h k =
-    let rest = held-changes (changed rows c.id c.change) (most + 1) changes h.1 (held-changed rows c.id most c.change (change_within rows c.id c.change h.0) k) in
-    record { types = rest.types; clocks = λ n. let c = rest.clocks n in omega arith }
-
-born_all : (rows : List Row) → EachBorn rows → All (λ row. row.history ≢ []) rows
-born_all [] h = All-nil (λ row. row.history ≢ [])
-born_all (row ∷ rows) h = All-cons (λ row. row.history ≢ []) row rows h.0 (born_all rows h.1)
-
-ends_leg : (s : State) → Stands s → length s.ended < 1000 → IsLegAfter (base s) s.open_leg
-ends_leg s h legs = record {
-  services = h.services;
-  changes = h.changes;
-  accepted = changes_accepted (opened s) (1024 * length s.ended) s.open_leg.changes
-      (held-services (base s) (1024 * length s.ended) s.open_leg.services h.services h.held) (let c = h.few_changes in omega arith) h.changes;
-  few = h.few_changes;
-  born = born_all (drop (length (base s)) (now s)) (born-drop (length (base s)) (now s) h.born);
-}
-
-with_settle : (s : State) → Stands s → length s.ended < 1000 → Stands (next s Settle)
-with_settle s h legs = record {
-  ended = legs-last [] s.ended s.open_leg h.ended (ends_leg s h legs);
-  few_legs = rw length-append (omega arith);
-  held = record {
-    types = λ n. ap (λ (rows : List Row). (row_at rows n).ty) after ∙ held_now.types n;
-    clocks = λ n. subst (λ (rows : List Row). length (row_at rows n).history ≤ 1024 * length (s.ended ++ s.open_leg ∷ [])) (sym after)
-        (let c = held_now.clocks n in let f = h.few_changes in rw length-append (omega arith));
-  };
-  services = tt;
-  changes = tt;
-  few_changes = omega arith;
-  more_legs = λ e. absurd (cc);
-  rows = ap (map bare) same ∙ h.rows;
-  born = subst EachBorn (sym same) h.born;
-}
-  where
-    after : rows_after_all [] (s.ended ++ s.open_leg ∷ []) ≡ now s
-    after = rows_after_all-last [] s.ended s.open_leg
-
-    same : with_services (rows_after_all [] (s.ended ++ s.open_leg ∷ [])) [] ≡ now s
-    same = append-nil (rows_after_all [] (s.ended ++ s.open_leg ∷ [])) ∙ after
-
-    held_now : Held (now s) (1024 * length s.ended + length s.open_leg.changes)
-    held_now = held-changes (opened s) (1024 * length s.ended) s.open_leg.changes h.changes
-        (held-services (base s) (1024 * length s.ended) s.open_leg.services h.services h.held)
-
--- ---- statements
-
-less_than : (a b : ℕ) → nat_le a b ≡ false → b < a
-less_than a b h = leb-false a b h
-
-unborn_last : (rows : List Row) (line : ServiceLine) (n : ℕ) → n ≡ length rows → IsUnborn (rows ++ row_of line ∷ []) n line.rank
-unborn_last rows line n e = subst (λ (k : ℕ). IsUnborn (rows ++ row_of line ∷ []) k line.rank) (sym e) (record {
-  declared = rw length-append (omega arith);
-  has_rank = ap (λ (row : Row). row.rank) (row_at-last rows (row_of line));
-  unborn = ap (λ (row : Row). row.history) (row_at-last rows (row_of line));
-})
-
-known_name : (rows : List Row) (name : List ℕ) (names : List (List ℕ)) → list_any (is_unknown rows) (name ∷ names) ≡ false → is_declared rows name ≡ true
-known_name rows name names h = not_false (is_declared rows name) (or_left (is_unknown rows name) (list_any (is_unknown rows) names) h)
-
-service_after : (s : State) → Stands s → (line : ServiceLine) → IsName line.name → is_declared s.rows line.name ≡ false → length s.rows < 64 → line.rank ≤ 1 → line.ty ≡ type.Int
-    → IsServiceAfter (opened s) line
-service_after s h line name new room rank ty = record {
+-- at most one service, which can be declared
+service_after : (rows there : List Row) (l : ServiceLine) → names_in there ≡ names_in rows → length there ≡ length rows → IsName l.name
+    → is_some (place_of rows l.name) ≡ false → nat_le 64 (length rows) ≡ false → l.rank ≤ 1000 → IsServiceAfter there l
+service_after rows there l same long name new room rank = record {
   name = name;
-  new = ap (λ (names : List (List ℕ)). position (bytes_eq line.name) names) (names_now s h) ∙ none_of (place_of s.rows line.name) new;
-  room = subst (λ (n : ℕ). n < 64) (sym (length_opened s h)) room;
+  new = ap (position (bytes_eq l.name)) same ∙ none_of (place_of rows l.name) new;
+  room = let k = leb-false 64 (length rows) room in omega (arith, long, k);
   rank = rank;
-  ty = ty;
 }
+  where
+    none_of : {A : Type 0} (o : Option A) → is_some o ≡ false → o ≡ None
+    none_of None h = refl
+    none_of (Some x) h = absurd (cc)
 
-set_stands : (s : State) (name : List ℕ) (value : Value) → Stands s → IsWhole value → Fits s.rows (length s.open_leg.changes) (length s.ended) (Set name value)
-    → Stands (next s (Set name value))
-set_stands s name value h w f =
-    let zero_rank : rank_of s.rows name ≡ 0 = let r = ltb-false 0 (rank_of s.rows name) f.input in omega arith in
-    let there = input_named s h name (known_name s.rows name [] f.known) zero_rank in
-    let c : PlanChange = record { id = number_of s.rows name; change = change.Set value } in
-    subst Stands
-    (λ i. record {
-      rows = sym (append-nil s.rows) i;
-      ended = s.ended;
-      open_leg = record { services = sym (append-nil s.open_leg.services) i; changes = s.open_leg.changes ++ c ∷ []; steps = s.open_leg.steps };
-      is_open = true;
-    })
-    (with_change s h (less_than 1000 (length s.ended) f.legs) (less_than 1024 (length s.open_leg.changes) f.changes) c (there, w))
+most_rank : (rank : ℕ) → (nat_lt rank 1 || nat_lt 1000 rank) ≡ false → rank ≤ 1000
+most_rank rank h = ltb-false 1000 rank (or_right (nat_lt rank 1) (nat_lt 1000 rank) h)
 
-input_stands : (s : State) (name : List ℕ) (ty : ValueType) (value : Value) → Stands s → Served (Input name ty value)
-    → Fits s.rows (length s.open_leg.changes) (length s.ended) (Input name ty value) → Stands (next s (Input name ty value))
-input_stands s name ty value h v f =
-    let line : ServiceLine = record { name = name; rank = 0; ty = ty } in
-    with_birth s h (less_than 1000 (length s.ended) f.legs) (less_than 1024 (length s.open_leg.changes) f.changes) line (definition.Input value)
-    (service_after s h line v.0 (or_left (is_declared s.rows name) false f.new) (less_than 64 (length s.rows) f.room) (omega arith) v.1)
-    (unborn_last (now s) line (length s.rows) (sym (length_now s h)), v.2)
+declared_after : (mode : Mode) (s : State) (there : List Row) (statement : Statement) → names_in there ≡ names_in s.rows → length there ≡ length s.rows
+    → DeclaresName statement → Fits mode s statement → AreServicesAfter there (declares statement)
+declared_after mode s there (Input name ty value) same long named f =
+    (service_after s.rows there (record { name = name; rank = 0; ty = ty }) same long named (or_left (is_some (place_of s.rows name)) false f.new) f.room (omega arith), tt)
+declared_after mode s there (Derived name ty rank body) same long named f =
+    (service_after s.rows there (record { name = name; rank = rank; ty = ty }) same long named (or_left (is_some (place_of s.rows name)) false f.new) f.room (most_rank rank f.rank), tt)
+declared_after mode s there statement same long named f = tt
 
--- the sum of names as one of services
-sum_of_names : {tree : _} {names : List (List ℕ)} (number : List ℕ → ℕ) → IsSummed tree names → IsSum tree (length (map number names))
-sum_of_names number (both h) = two
-sum_of_names number one = double
+one_change : (rows : List Row) (statement : Statement) → length (changes rows statement) ≤ 1
+one_change rows (Input name ty value) = omega arith
+one_change rows (Derived name ty rank (Formula formula)) = omega arith
+one_change rows (Derived name ty rank TooLarge) = omega arith
+one_change rows (Set name value) = omega arith
+one_change rows (Add reader member) = omega arith
+one_change rows (Drop reader member) = omega arith
+one_change rows (Define name (Formula formula)) = omega arith
+one_change rows (Define name TooLarge) = omega arith
+one_change rows statement = omega arith
 
-apart_names : {tree : _} {names : List (List ℕ)} (rows : List Row) → IsSummed tree names → list_any (is_unknown rows) names ≡ false → Apart (map (number_of rows) names)
-apart_names rows (both {a = a} {b = b} h) k = (
-  λ has. ⊎_elim (λ e. h (one_name rows a b (known_name rows a (b ∷ []) k) (known_name rows b [] (or_right (is_unknown rows a) (list_any (is_unknown rows) (b ∷ [])) k)) e)) (λ no. no) has,
-  (λ no. no, tt),
-)
-apart_names rows one k = (λ no. no, tt)
+room_for : (services count : ℕ) (cs : List PlanChange) → length cs ≤ 1 → count ≤ 1024 → (nat_lt 0 (services + length cs) && nat_le 1024 count) ≡ false → count + length cs ≤ 1024
+room_for services count [] one most h = omega (arith, most)
+room_for services count (c ∷ cs) one most h = by (nat_lt 0 (services + length (c ∷ cs))) (nat_le 1024 count) refl refl h
+  where
+    by : (a b : Bool) → nat_lt 0 (services + length (c ∷ cs)) ≡ a → nat_le 1024 count ≡ b → (a && b) ≡ false → count + length (c ∷ cs) ≤ 1024
+    by false b e f k = let z = ltb-false 0 (services + length (c ∷ cs)) e in absurd (omega (arith, z))
+    by true true e f k = absurd (cc)
+    by true false e f k = let l = leb-false 1024 count f in omega (arith, l, one)
 
-inputs_named : (s : State) → Stands s → (names : List (List ℕ)) → list_any (is_unknown s.rows) names ≡ false → list_any (is_no_lower s.rows 1) names ≡ false
-    → All (IsBornInput (now s)) (map (number_of s.rows) names)
-inputs_named s h [] k l = All-nil (IsBornInput (now s))
-inputs_named s h (name ∷ names) k l =
-    let low : rank_of s.rows name ≡ 0 = let r = less_than 1 (rank_of s.rows name) (or_left (is_no_lower s.rows 1 name) (list_any (is_no_lower s.rows 1) names) l) in omega arith in
-    All-cons (IsBornInput (now s)) (number_of s.rows name) (map (number_of s.rows) names)
-    (input_named s h name (known_name s.rows name names k) low)
-    (inputs_named s h names (or_right (is_unknown s.rows name) (list_any (is_unknown s.rows) names) k) (or_right (is_no_lower s.rows 1 name) (list_any (is_no_lower s.rows 1) names) l))
+all_born : (rs : List Row) → EachBorn rs → All (λ row. row.history ≢ []) rs
+all_born [] b = All-nil (λ row. row.history ≢ [])
+all_born (row ∷ rs) b = All-cons (λ row. row.history ≢ []) row rs b.0 (all_born rs b.1)
 
-derived_stands : (s : State) (name : List ℕ) (ty : ValueType) (rank : ℕ) (formula : NamedFormula) → Stands s → Served (Derived name ty rank formula)
-    → Fits s.rows (length s.open_leg.changes) (length s.ended) (Derived name ty rank formula) → Stands (next s (Derived name ty rank formula))
-derived_stands s name ty rank formula h v f =
-    let line : ServiceLine = record { name = name; rank = rank; ty = ty } in
-    let is_one : rank ≡ 1 = eqb-true rank 1 (not_false (rank == 1) f.rank) in
-    let all_names : formula.names ++ formula.members ≡ formula.names = ap (λ (members : List (List ℕ)). formula.names ++ members) v.3 ∙ append-nil formula.names in
-    let known : list_any (is_unknown s.rows) formula.names ≡ false = ap (list_any (is_unknown s.rows)) (sym all_names) ∙ f.known in
-    let lower : list_any (is_no_lower s.rows 1) formula.names ≡ false =
-    ap (λ (r : ℕ). list_any (is_no_lower s.rows r) formula.names) (sym is_one) ∙ ap (list_any (is_no_lower s.rows rank)) (sym all_names) ∙ f.lower in
-    let inputs = inputs_named s h formula.names known lower in
-    with_birth s h (less_than 1000 (length s.ended) f.legs) (less_than 1024 (length s.open_leg.changes) f.changes) line (definition.Derived (formula_of s.rows formula))
-    (service_after s h line v.0 (or_left (is_declared s.rows name) false f.new) (less_than 64 (length s.rows) f.room) (omega arith) v.1) (
-      subst (IsUnborn (now s ++ row_of line ∷ []) (length s.rows)) is_one (unborn_last (now s) line (length s.rows) (sym (length_now s h))),
-      record {
-        sum = sum_of_names (number_of s.rows) v.2;
-        inputs = λ k d less. born-more (now s) (row_of line ∷ []) (get_or (map (number_of s.rows) formula.names) k d) (inputs k d less);
-        distinct = apart_names s.rows v.2 known;
-        no_members = ap (map (number_of s.rows)) v.3;
-      },
-    )
+-- ---- a statement more
 
-stands_next : (s : State) (statement : Statement) → Stands s → Served statement → Fits s.rows (length s.open_leg.changes) (length s.ended) statement → Stands (next s statement)
-stands_next s Silence h v f = h
-stands_next s Settle h v f = with_settle s h (less_than 1000 (length s.ended) f.legs)
-stands_next s (Input name ty value) h v f = input_stands s name ty value h v f
-stands_next s (Derived name ty rank formula) h v f = derived_stands s name ty rank formula h v f
-stands_next s (Set name value) h v f = set_stands s name value h v f
+module _ (rows : List Row) (before : ℕ) (s : State) (h : Stands rows before s) where
+  same_names : names_in (opened rows s) ≡ names_in s.rows
+  same_names = sym (names_in-with_changes (opened rows s) s.open_leg.changes) ∙ ap names_in h.now
 
-stands_after : {mode : Mode} {lines : List (List ℕ)} {statements : List Statement} → Accepts mode lines statements → Stands (state_after statements)
-stands_after nothing = at_start
-stands_after (one_more {before = before} {statement = statement} h k) =
-    stands_next (state_after before) statement (stands_after h) (said_served k.reads.says)
-    (fits_of (state_after before).rows (length (state_after before).open_leg.changes) (length (state_after before).ended) statement (refuses_is before statement ∙ k.fits))
+  same_length : length (opened rows s) ≡ length s.rows
+  same_length = sym (length-with_changes (opened rows s) s.open_leg.changes) ∙ ap length h.now
+
+  -- services and changes more, in a leg that goes on
+  with_more : (lines : List ServiceLine) (cs : List PlanChange) (last : State) → AreServicesAfter (opened rows s) lines → AreAcceptedAfter (with_services s.rows lines) cs
+      → length s.open_leg.changes + length cs ≤ 1024 → before + length s.ended < 1000 → last.ended ≡ s.ended → last.before ≡ s.before
+      → last.open_leg.services ≡ s.open_leg.services ++ lines → last.open_leg.changes ≡ s.open_leg.changes ++ cs → last.rows ≡ with_changes (with_services s.rows lines) cs
+      → Stands rows before last
+  with_more lines cs last l k few legs ended_is before_is services_are changes_are rows_are = record {
+    ended = subst (AreLegsAfter rows) (sym ended_is) h.ended;
+    services = subst (λ (legs : List Leg). AreServicesAfter (rows_after_all rows legs) last.open_leg.services) (sym ended_is)
+        (subst (AreServicesAfter (base rows s)) (sym services_are) (services-append (base rows s) s.open_leg.services lines h.services l));
+    accepted = subst (λ (rs : List Row). AreAcceptedAfter rs last.open_leg.changes) (sym opened_is)
+        (subst (AreAcceptedAfter (with_services (opened rows s) lines)) (sym changes_are)
+        (accepted-append (with_services (opened rows s) lines) s.open_leg.changes cs (accepted-more (opened rows s) (map row_of lines) s.open_leg.changes h.accepted)
+        (subst (λ (rs : List Row). AreAcceptedAfter rs cs) (sym behind) k)));
+    few = subst (λ (c : List PlanChange). length c ≤ 1024) (sym changes_are) (omega (arith, length-append s.open_leg.changes cs, few));
+    now = (λ i. with_changes (opened_is i) (changes_are i)) ∙ with_changes-append (with_services (opened rows s) lines) s.open_leg.changes cs
+        ∙ ap (λ (rs : List Row). with_changes rs cs) behind ∙ sym rows_are;
+    before_is = before_is ∙ h.before_is;
+    few_legs = let e = ap length ended_is in omega (arith, e, legs);
+    more_legs = λ is. let e = ap length ended_is in omega (arith, e, legs);
+  }
+    where
+      opened_is : opened rows last ≡ with_services (opened rows s) lines
+      opened_is = (λ i. with_services (rows_after_all rows (ended_is i)) (services_are i)) ∙ with_services-append (base rows s) s.open_leg.services lines
+
+      behind : with_changes (with_services (opened rows s) lines) s.open_leg.changes ≡ with_services s.rows lines
+      behind = with_changes-more (opened rows s) (map row_of lines) s.open_leg.changes h.accepted ∙ ap (λ (rs : List Row). with_services rs lines) h.now
+
+  ends_leg : EachBorn s.rows → IsLegAfter (base rows s) s.open_leg
+  ends_leg born = record {
+    services = h.services;
+    accepted = h.accepted;
+    few = h.few;
+    born = all_born _ (subst (λ (rs : List Row). EachBorn (drop (length (base rows s)) rs)) (sym h.now) (born-drop (length (base rows s)) s.rows born));
+  }
+
+  with_settle : EachBorn s.rows → before + length s.ended < 1000 → Stands rows before (next s Settle)
+  with_settle born legs = record {
+    ended = legs-last rows s.ended s.open_leg h.ended (ends_leg born);
+    services = tt;
+    accepted = tt;
+    few = omega arith;
+    now = append-nil (rows_after_all rows (s.ended ++ s.open_leg ∷ [])) ∙ rows_after_all-last rows s.ended s.open_leg ∙ h.now;
+    before_is = h.before_is;
+    few_legs = omega (arith, length-append s.ended (s.open_leg ∷ []), legs);
+    more_legs = λ is. absurd (cc);
+  }
+
+  legs_left : (mode : Mode) (statement : Statement) → is_past_legs s statement ≡ nat_le 1000 (s.before + length s.ended) → Fits mode s statement → before + length s.ended < 1000
+  legs_left mode statement e f = let k = leb-false 1000 (s.before + length s.ended) (sym e ∙ f.legs) in let b = h.before_is in omega (arith, k, b)
+
+  with_said : (mode : Mode) (statement : Statement) (last : State) → IsSound s → DeclaresName statement → AreAcceptedAfter (with_services s.rows (declares statement)) (changes s.rows statement)
+      → Fits mode s statement → is_past_legs s statement ≡ nat_le 1000 (s.before + length s.ended)
+      → last ≡ record s { lines = s.lines + 1; rows = with_changes (with_services s.rows (declares statement)) (changes s.rows statement); open_leg = said s statement; is_open = true }
+      → Stands rows before last
+  with_said mode statement last sound named k f e is =
+      with_more (declares statement) (changes s.rows statement) last (declared_after mode s (opened rows s) statement same_names same_length named f) k
+      (room_for (length (declares statement)) (length s.open_leg.changes) (changes s.rows statement) (one_change s.rows statement) h.few f.changes)
+      (legs_left mode statement e f) (ap (λ (t : State). t.ended) is) (ap (λ (t : State). t.before) is) (ap (λ (t : State). t.open_leg.services) is) (ap (λ (t : State). t.open_leg.changes) is) (ap (λ (t : State). t.rows) is)
+
+stands_next : (rows : List Row) (before : ℕ) (mode : Mode) (s : State) (statement : Statement) → Stands rows before s → IsSound s → DeclaresName statement
+    → AreAcceptedAfter (with_services s.rows (declares statement)) (changes s.rows statement) → Fits mode s statement → Stands rows before (next s statement)
+stands_next rows before mode s Silence h sound named k f = record {
+  ended = h.ended;
+  services = h.services;
+  accepted = h.accepted;
+  few = h.few;
+  now = h.now;
+  before_is = h.before_is;
+  few_legs = h.few_legs;
+  more_legs = h.more_legs;
+}
+stands_next rows before mode s Settle h sound named k f = with_settle rows before s h (each_born s.rows sound.born) (legs_left rows before s h mode Settle refl f)
+stands_next rows before mode s statement h sound named k f = with_said rows before s h mode statement (next s statement) sound named k f refl refl
 
 -- ---- the law
 
-legs_taken_at : (s : State) → Stands s → (t : Bool) → s.is_open ≡ t
-    → AreLegsAfter [] (if t then s.ended ++ s.open_leg ∷ [] else s.ended) × (length (if t then s.ended ++ s.open_leg ∷ [] else s.ended) ≤ 1000)
-legs_taken_at s h true e = (legs-last [] s.ended s.open_leg h.ended (ends_leg s h (h.more_legs e)), let l = h.more_legs e in rw length-append (omega arith))
-legs_taken_at s h false e = (h.ended, h.few_legs)
+stands_reads : {rows : List Row} {before : ℕ} {mode : Mode} {first s last : State} {front rest : List (List ℕ)} → IsStart first → Reads mode first front s → Reads mode s rest last
+    → size (front ++ rest) ≤ 1048577 → Stands rows before s → Stands rows before last
+stands_reads i r ends short h = h
+stands_reads {rows = rows} {before = before} {mode = mode} {first = first} {s = s} {front = front} i r (line {first = l} {lines = lines} {statement = statement} a q) short h =
+    let whole : size (front ++ l ∷ lines) ≡ size front + (length l + 1 + size lines) = size-append front (l ∷ lines) in
+    let sound = sound_here i r (omega (arith, whole, short)) in
+    stands_reads i (reads-last r a) q (subst (λ (ls : List (List ℕ)). size ls ≤ 1048577) (sym (append_assoc front (l ∷ []) lines)) short)
+    (stands_next rows before mode s statement h sound (said_named a.reads.says) (changes_accepted mode s statement sound (said_proper a.reads.says) a.fits) (fits_of mode s statement a.fits))
 
--- the legs of an accepted document can be taken one after the other, and are at most 1,000
-pub legs_taken : (mode : Mode) (bytes : List ℕ) (legs : List Leg) → HasLegs mode bytes legs → AreLegsAfter [] legs × (length legs ≤ 1000)
-legs_taken mode bytes legs (statements, d, e) =
-    let s = state_after statements in
-    subst (λ (ls : List Leg). AreLegsAfter [] ls × (length ls ≤ 1000)) (legs_are statements ∙ sym e)
-    (legs_taken_at s (stands_after d.lines) s.is_open refl)
+legs_taken_at : (rows : List Row) (before : ℕ) (s : State) → Stands rows before s → EachBorn s.rows → (t : Bool) → s.is_open ≡ t
+    → AreLegsAfter rows (if t then s.ended ++ s.open_leg ∷ [] else s.ended) × (before + length (if t then s.ended ++ s.open_leg ∷ [] else s.ended) ≤ 1000)
+legs_taken_at rows before s h born true e =
+    (legs-last rows s.ended s.open_leg h.ended (ends_leg rows before s h born), let l = h.more_legs e in omega (arith, length-append s.ended (s.open_leg ∷ []), l))
+legs_taken_at rows before s h born false e = (h.ended, h.few_legs)
+
+-- the legs of an accepted document can be taken one after the other, and are not too many
+pub legs_taken : (mode : Mode) (first last : State) (bytes : List ℕ) → IsStart first → length bytes ≤ 1048576 → Reads mode first (lines_of bytes) last
+    → AreLegsAfter first.rows (legs_in last) × (first.before + length (legs_in last) ≤ 1000)
+legs_taken mode first last bytes i short r =
+    let bound = size_lines bytes in
+    let begun : Stands first.rows first.before first = subst (Stands first.rows first.before) (sym i.begins) (at_start first.rows first.before i.legs) in
+    legs_taken_at first.rows first.before last (stands_reads {front = []} i ends r (omega (arith, bound, short)) begun) (born_reads r (each_born first.rows i.born)) last.is_open refl

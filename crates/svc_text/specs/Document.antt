@@ -1,14 +1,18 @@
 -- Which documents are accepted, and which line of another is refused.
-use Rattle.std.specs.Prelude.{◌≡◌, ℕ, ◌+◌, ◌<◌, ◌≤◌, false, ◌==◌, if◌then◌else◌, List, [], ◌∷◌, ◌++◌, length, reverse, ◌⊎◌}
+use Rattle.std.specs.Prelude.{◌≡◌, ℕ, ◌+◌, ◌<◌, ◌≤◌, ◌==◌, if◌then◌else◌, List, [], ◌∷◌, ◌++◌, length, ◌⊎◌, Some, None}
 use Rattle.std.specs.Str.{IsUtf8}
+use Rattle.svc_graph.specs.History.{Row}
 use Rattle.svc_text.specs.declared.plan.Leg.{Leg}
 use Rattle.svc_text.specs.declared.plan.Mode.{Mode}
-use Rattle.svc_text.specs.declared.refusal.Code.TheVariants.{E01, E04}
+use Rattle.svc_text.specs.declared.refusal.Code.{Code}
+use Rattle.svc_text.specs.declared.refusal.Code.TheVariants.{E01, E02, E03, E04}
 use Rattle.svc_text.specs.declared.refusal.Refusal.{Refusal}
 use Rattle.svc_text.specs.declared.statement.Statement.{Statement}
 use Rattle.svc_text.specs.Grammar.{Says}
-use Rattle.svc_text.specs.Legs.{legs_of}
-use Rattle.svc_text.specs.Refusals.{is_refused}
+use Rattle.svc_text.specs.Refusals.{refusal}
+use Rattle.svc_text.specs.State.{State, start, next, legs_in}
+
+-- ---- lines
 
 -- a byte before the first line
 abbrev pub before_first_line : ℕ → List (List ℕ) → List (List ℕ)
@@ -26,43 +30,70 @@ pub record IsLine (line : List ℕ) (statement : Statement) : Type 0 where
   pub text : IsUtf8 line
   pub says : Says line statement
 
--- a line that says this is accepted after these statements, newest first
-pub record AcceptsLine (mode : Mode) (before : List Statement) (line : List ℕ) (statement : Statement) : Type 0 where
+-- the line says this, which is not refused in this state
+pub record AcceptsLine (mode : Mode) (state : State) (line : List ℕ) (statement : Statement) : Type 0 where
   pub reads : IsLine line statement
-  pub fits : is_refused before statement ≡ false
+  pub fits : refusal mode state statement ≡ None
 
--- the lines say these statements, and each is accepted after those before it; both stand newest first
-pub data Accepts : Mode → List (List ℕ) → List Statement → Type 0 where
-  nothing : {mode : Mode} → Accepts mode [] []
-  one_more : {mode : Mode} {lines : List (List ℕ)} {before : List Statement} {line : List ℕ} {statement : Statement}
-      → Accepts mode lines before → AcceptsLine mode before line statement → Accepts mode (line ∷ lines) (statement ∷ before)
+-- the line says nothing: it is too long, not UTF-8 or not in the grammar, whatever stands before it
+pub data IsUnread (line : List ℕ) : Code → Type 0 where
+  long : 4096 < length line → IsUnread line E02
+  other_bytes : length line ≤ 4096 → (IsUtf8 line → ⊥) → IsUnread line E03
+  other_words : length line ≤ 4096 → IsUtf8 line → ((statement : Statement) → Says line statement → ⊥) → IsUnread line E04
 
--- the document is accepted and says these statements, newest first
-pub record IsDocument (mode : Mode) (bytes : List ℕ) (statements : List Statement) : Type 0 where
+-- the line is refused in this state, with the least code whose condition holds
+pub data RefusesLine (mode : Mode) (state : State) (line : List ℕ) : Code → Type 0 where
+  unread : {code : Code} → IsUnread line code → RefusesLine mode state line code
+  against : {statement : Statement} {code : Code} → IsLine line statement → refusal mode state statement ≡ Some code → RefusesLine mode state line code
+
+-- ---- documents
+
+-- each of the lines is accepted after those before it, and they lead from the first state to the last
+pub data Reads (mode : Mode) : State → List (List ℕ) → State → Type 0 where
+  ends : {state : State} → Reads mode state [] state
+  line : {state last : State} {first : List ℕ} {lines : List (List ℕ)} {statement : Statement} → AcceptsLine mode state first statement → Reads mode (next state statement) lines last
+      → Reads mode state (first ∷ lines) last
+
+-- the document is accepted where these are the rows and so many legs have ended, and leads to this state
+pub record IsDocumentAfter (rows : List Row) (before : ℕ) (mode : Mode) (bytes : List ℕ) (last : State) : Type 0 where
   pub short : length bytes ≤ 1048576
-  pub lines : Accepts mode (reverse (lines_of bytes)) statements
+  pub lines : Reads mode (start rows before) (lines_of bytes) last
 
--- the document is accepted
-abbrev pub IsAccepted : Mode → List ℕ → Type 0
-IsAccepted mode bytes = (statements : List Statement) × IsDocument mode bytes statements
+-- it is accepted there, and these are its legs
+abbrev pub HasLegsAfter : List Row → ℕ → Mode → List ℕ → List Leg → Type 0
+HasLegsAfter rows before mode bytes legs = (last : State) × IsDocumentAfter rows before mode bytes last × (legs ≡ legs_in last)
+
+-- it is accepted there
+abbrev pub IsAcceptedAfter : List Row → ℕ → Mode → List ℕ → Type 0
+IsAcceptedAfter rows before mode bytes = (last : State) × IsDocumentAfter rows before mode bytes last
+
+-- the line with this number, from 1, is the first that is refused, with this code
+pub record IsFirstRefused (rows : List Row) (before : ℕ) (mode : Mode) (bytes : List ℕ) (number : ℕ) (code : Code) : Type 0 where
+  pub front : List (List ℕ)
+  pub line : List ℕ
+  pub behind : List (List ℕ)
+  pub state : State
+  pub lines : lines_of bytes ≡ front ++ line ∷ behind
+  pub number_is : number ≡ length front + 1
+  pub accepted : Reads mode (start rows before) front state
+  pub refused : RefusesLine mode state line code
+
+-- the refusal of a document that is not accepted there
+abbrev pub IsRefusalAfter : List Row → ℕ → Mode → List ℕ → Refusal → Type 0
+IsRefusalAfter rows before mode bytes refused =
+    ((1048576 < length bytes) × (refused ≡ record { line = 0; code = E01 }))
+    ⊎ ((length bytes ≤ 1048576) × IsFirstRefused rows before mode bytes refused.line refused.code)
+
+-- ---- before any service
 
 -- the document is accepted, and these are its legs
 abbrev pub HasLegs : Mode → List ℕ → List Leg → Type 0
-HasLegs mode bytes legs = (statements : List Statement) × IsDocument mode bytes statements × (legs ≡ legs_of statements)
+HasLegs mode bytes legs = HasLegsAfter [] 0 mode bytes legs
 
--- the line with this number, from 1, is the first that is not accepted
-pub record IsFirstRefused (mode : Mode) (bytes : List ℕ) (refused : ℕ) : Type 0 where
-  pub before : List (List ℕ)
-  pub line : List ℕ
-  pub behind : List (List ℕ)
-  pub statements : List Statement
-  pub lines : lines_of bytes ≡ reverse before ++ line ∷ behind
-  pub number : refused ≡ length before + 1
-  pub accepted : Accepts mode before statements
-  pub no_more : (statement : Statement) → AcceptsLine mode statements line statement → ⊥
+-- the document is accepted
+abbrev pub IsAccepted : Mode → List ℕ → Type 0
+IsAccepted mode bytes = IsAcceptedAfter [] 0 mode bytes
 
 -- the refusal of a document that is not accepted
 abbrev pub IsRefusal : Mode → List ℕ → Refusal → Type 0
-IsRefusal mode bytes refusal =
-    ((1048576 < length bytes) × (refusal ≡ record { line = 0; code = E01 }))
-    ⊎ ((length bytes ≤ 1048576) × IsFirstRefused mode bytes refusal.line × (refusal.code ≡ E04))
+IsRefusal mode bytes refused = IsRefusalAfter [] 0 mode bytes refused

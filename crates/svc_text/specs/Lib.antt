@@ -1,9 +1,13 @@
+pub mod Canonical
 pub mod Document
+pub mod Extending
+pub mod Generator
 pub mod Grammar
-pub mod Legs
+pub mod Present
 pub mod Reader
 pub mod Reading
 pub mod Refusals
 pub mod Rows
+pub mod Sound
 pub mod State
-pub mod Taking
+pub mod Stops

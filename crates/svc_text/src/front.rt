@@ -1,19 +1,44 @@
-// What stands at the front of the tokens of a line.
+// What stands at the front of tokens.
 ghost use Rattle.std.specs.Prelude.{◌≡◌, option_map};
-ghost use Rattle.svc_text.specs.Reading.{declared_at, rank_at, equals_at};
+ghost use Rattle.svc_text.specs.Reading.{name_at, type_of, type_at, rank_at, equals_at, from_at};
 
 use svc_token::{Keyword, LentName, Token};
 use svc_value::ValueType;
 
-/// `NAME : TYPE` and what follows; `None` where something else stands there.
-pub(crate) fn declared<'t, 'a>(
-    tokens: &'t [Token<'a>],
-) -> Option<(LentName<'a>, ValueType, &'t [Token<'a>])>
-    ensures { option_map (λ x. (x.0, x.1, x.2.now)) result ≡ declared_at tokens.now }
+/// A name and what follows; `None` where something else stands there.
+pub(crate) fn named<'t, 'a>(tokens: &'t [Token<'a>]) -> Option<(LentName<'a>, &'t [Token<'a>])>
+    ensures { option_map (λ x. (x.0, x.1.now)) result ≡ name_at tokens.now }
 {
     match tokens {
-        [name, Token::Colon, Token::Keyword(Keyword::Int), rest @ ..] => match name {
-            Token::Name(name) => Some((name.lend(), ValueType::Int, rest)),
+        [name, rest @ ..] => match name {
+            Token::Name(name) => Some((name.lend(), rest)),
+            _ => None,
+        },
+        _ => None,
+    }
+}
+
+// The type that a keyword names.
+fn type_of(word: Keyword) -> Option<ValueType>
+    ensures { result ≡ type_of word }
+{
+    match word {
+        Keyword::Int => Some(ValueType::Int),
+        Keyword::Text => Some(ValueType::Text),
+        _ => None,
+    }
+}
+
+/// `: TYPE` and what follows; `None` where something else stands there.
+pub(crate) fn typed<'t, 'a>(tokens: &'t [Token<'a>]) -> Option<(ValueType, &'t [Token<'a>])>
+    ensures { option_map (λ x. (x.0, x.1.now)) result ≡ type_at tokens.now }
+{
+    match tokens {
+        [Token::Colon, word, rest @ ..] => match word {
+            Token::Keyword(word) => {
+                let ty = type_of(*word)?;
+                Some((ty, rest))
+            }
             _ => None,
         },
         _ => None,
@@ -39,6 +64,16 @@ pub(crate) fn equated<'t, 'a>(tokens: &'t [Token<'a>]) -> Option<&'t [Token<'a>]
 {
     match tokens {
         [Token::Equals, rest @ ..] => Some(rest),
+        _ => None,
+    }
+}
+
+/// What follows `from`; `None` where something else stands there.
+pub(crate) fn sent_from<'t, 'a>(tokens: &'t [Token<'a>]) -> Option<&'t [Token<'a>]>
+    ensures { option_map (λ x. x.now) result ≡ from_at tokens.now }
+{
+    match tokens {
+        [Token::Keyword(Keyword::From), rest @ ..] => Some(rest),
         _ => None,
     }
 }

@@ -1,17 +1,19 @@
 // The lines of a document.
-ghost use Rattle.std.specs.Prelude.{◌≡◌, ◌<◌, ◌∷◌, ◌↔◌, ◌==◌, not, false, length, IsTrue, IfOk, IsErrOf};
+ghost use Rattle.std.specs.Prelude.{◌≡◌, ◌<◌, ◌∷◌, ◌↔◌, ◌==◌, not, false, length, IsTrue, IfOk, IfErr};
 ghost use Rattle.std.specs.List.{take_while};
 ghost use Rattle.std.specs.Str.{IsUtf8};
-ghost use Rattle.svc_text.specs.declared.statement.Statement.{Statement};
-ghost use Rattle.svc_text.specs.Document.{lines_of, IsLine};
+ghost use Rattle.svc_text.specs.declared.refusal.Code.{Code};
+ghost use Rattle.svc_text.specs.Document.{lines_of, IsLine, IsUnread};
 ghost use Rattle.svc_text.specs.Grammar.{is_silent, Says};
+ghost use Rattle.svc_text.specs.Reading.{Answers};
 
 use crate::grammar::statement;
+use crate::refusal::Code;
 use crate::statement::Statement;
 use crate::stop::Stop;
 use std::alloc::Global;
 use std::str;
-use svc_token::{Token, cut, is_blank};
+use svc_token::{CutError, Token, cut, is_blank};
 
 /// The most bytes of a line, without its LF.
 pub const LONGEST_LINE: usize = 4096;
@@ -24,7 +26,7 @@ fn line_len(bytes: &[u8]) -> usize
 }
 
 /// The first line, without its LF, and what follows it.
-pub(crate) fn first_line(bytes: &[u8]) -> (&[u8], &[u8])
+pub fn first_line(bytes: &[u8]) -> (&[u8], &[u8])
     requires { 0 < length bytes.now }
     ensures lines { lines_of bytes.now ≡ result.0.now ∷ lines_of result.1.now }
     ensures shorter { length result.1.now < length bytes.now }
@@ -55,32 +57,37 @@ fn is_text(line: &[u8]) -> bool
     str::from_utf8(line).is_ok()
 }
 
-// What a line says that is not silent; `Refused` exactly where it is not in the grammar.
+// What a line says that is not silent; `E04` exactly where it is not in the grammar.
 fn read_spoken<'a>(
     alloc: Global,
     line: &'a [u8],
     tokens: &mut Vec<Token<'a>>,
 ) -> Result<Statement<'a>, Stop>
     requires { is_silent line.now ≡ false }
-    ensures said { IfOk result (λ statement. Says line.now statement) }
-    ensures refused { IsErrOf result Stop.Refused → (statement : Statement) → Says line.now statement → ⊥ }
+    ensures { Answers (Says line.now) result }
 {
-    cut(line, tokens)?;
-    statement(alloc, tokens.as_slice())
+    match cut(line, tokens) {
+        Ok(()) => statement(alloc, tokens.as_slice()),
+        Err(CutError::Bad) => Err(Stop::Refused(Code::E04)),
+        Err(CutError::OutOfMemory) => Err(Stop::OutOfMemory),
+    }
 }
 
-/// What a line says; `Refused` exactly where it is too long, not UTF-8 or not in the grammar. Its tokens take the place of
-/// those in `tokens`.
-pub(crate) fn read_line<'a>(
+/// What a line says; `Refused` exactly where it is too long, not UTF-8 or not in the grammar, with the first of `E02`, `E03`
+/// and `E04` that holds. Its tokens take the place of those in `tokens`.
+pub fn read_line<'a>(
     alloc: Global,
     line: &'a [u8],
     tokens: &mut Vec<Token<'a>>,
 ) -> Result<Statement<'a>, Stop>
     ensures said { IfOk result (λ statement. IsLine line.now statement) }
-    ensures refused { IsErrOf result Stop.Refused → (statement : Statement) → IsLine line.now statement → ⊥ }
+    ensures refused { IfErr result (λ stop. (code : Code) → stop ≡ Stop.Refused code → IsUnread line.now code) }
 {
-    if line.len() > LONGEST_LINE || !is_text(line) {
-        return Err(Stop::Refused);
+    if line.len() > LONGEST_LINE {
+        return Err(Stop::Refused(Code::E02));
+    }
+    if !is_text(line) {
+        return Err(Stop::Refused(Code::E03));
     }
     if is_silent(line) {
         return Ok(Statement::Silence);

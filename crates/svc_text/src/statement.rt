@@ -1,7 +1,7 @@
 // What one line says.
 use svc_expr::Expr;
 use svc_token::LentName;
-use svc_value::{ListOf, Value, ValueType};
+use svc_value::{ListOf, Names, Value, ValueType};
 
 /// Names, lent from a document.
 pub type LentNames<'a> = ListOf<LentName<'a>>;
@@ -12,9 +12,18 @@ pub struct NamedFormula<'a> {
     /// The expression.
     pub expr: Expr,
     /// The distinct names of the expression, in the order of first mention.
-    pub names: LentNames<'a>,
+    pub names: Names,
     /// The members.
     pub members: LentNames<'a>,
+}
+
+/// What a line gives a derived service to compute by.
+#[derive(Debug, Drop)]
+pub enum Body<'a> {
+    /// A formula.
+    Formula(NamedFormula<'a>),
+    /// An expression of more than 128 nodes or a depth above 32.
+    TooLarge,
 }
 
 /// What a line of a document says, by names.
@@ -24,10 +33,23 @@ pub enum Statement<'a> {
     Silence,
     /// It declares an input of this type, with its first value.
     Input(LentName<'a>, ValueType, Value),
-    /// It declares a derived service of this type and rank, with its first formula.
-    Derived(LentName<'a>, ValueType, u64, NamedFormula<'a>),
+    /// It declares a derived service of this type and rank, with what it computes by first. A rank above 2^64 - 1 counts as
+    /// that number.
+    Derived(LentName<'a>, ValueType, u64, Body<'a>),
     /// It gives an input another value.
     Set(LentName<'a>, Value),
+    /// It gives the first service the second as a member more.
+    Add(LentName<'a>, LentName<'a>),
+    /// It takes from the first service the second as a member.
+    Drop(LentName<'a>, LentName<'a>),
+    /// It gives a derived service something else to compute by.
+    Define(LentName<'a>, Body<'a>),
     /// It ends a leg.
     Settle,
+    /// The service is to do its next change.
+    Do(LentName<'a>),
+    /// The first service is to take the next frame of the second.
+    Take(LentName<'a>, LentName<'a>),
+    /// The service is to take one turn.
+    Turn(LentName<'a>),
 }

@@ -1,4 +1,4 @@
-use Rattle.svc_text.proofs.TakingLemmas.{one_plan}
+use Rattle.svc_text.proofs.ReadingLemmas.{one_plan}
 use Rattle.svc_text.proofs.document.one_plan.Goals as goal
 
 pub returns : goal.returns

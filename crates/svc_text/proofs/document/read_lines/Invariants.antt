@@ -1,10 +1,10 @@
-use Rattle.std.proofs.Common.{length}
+use Rattle.std.proofs.Common.{◌≡◌, length}
 use Rattle.svc_text.specs.Reader.{state}
 use Rattle.svc_text.proofs.TakingLemmas.{ReadSoFar}
 use Rattle.svc_text.proofs.document.read_lines.Given as goal
 
 abbrev pub invariant-loop-rest : goal.invariant-loop-rest
-invariant-loop-rest l = ReadSoFar l.fn.mode l.bytes l.rest l.count (state l.reader)
+invariant-loop-rest l = ReadSoFar l.fn.reader.mode (state l.fn.reader) l.bytes l.rest l.count (state l.reader) × (l.reader.mode ≡ l.fn.reader.mode)
 
 abbrev pub decreases-loop-rest : goal.decreases-loop-rest
 decreases-loop-rest l = length l.rest
