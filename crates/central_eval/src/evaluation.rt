@@ -1,5 +1,5 @@
 // The central evaluation of a book.
-ghost use Rattle.std.specs.Prelude.{◌≡◌, ℕ, ◌<◌, ◌≤◌, map, length, All, IfOk};
+ghost use Rattle.std.specs.Prelude.{◌≡◌, ℕ, ◌<◌, ◌≤◌, map, length, slice_set, All, IfOk, OnOk};
 ghost use Rattle.svc_graph.specs.Central.{AreBorn, AreCentral};
 ghost use Rattle.svc_graph.specs.History.{dependencies};
 ghost use Rattle.svc_graph.specs.Lent.{definition_lent};
@@ -11,14 +11,14 @@ use svc_graph::{Book, DefinitionRef};
 use svc_value::{Fault, OutOfMemory, ServiceId, Value};
 
 // The place of a service among all.
-fn place(id: ServiceId) -> usize
+pub(crate) fn place(id: ServiceId) -> usize
     ensures { result ≡ id }
 {
     usize::from(id.0)
 }
 
 // Values that are not there.
-fn no_values(alloc: Global, count: usize) -> Result<Vec<Value>, AllocError>
+pub(crate) fn no_values(alloc: Global, count: usize) -> Result<Vec<Value>, AllocError>
     ensures { IfOk result (λ values. length values.items ≡ count) }
 {
     let mut values = Vec::with_capacity(alloc, count)?;
@@ -60,6 +60,23 @@ fn value_by(
     }
 }
 
+// Puts the meaning of a service's definition over the values into its place among them.
+pub(crate) fn put_value(
+    alloc: Global,
+    definition: DefinitionRef<'_>,
+    id: ServiceId,
+    values: &mut Vec<Value>,
+) -> Result<(), OutOfMemory>
+    requires few { length (dependencies (definition_lent definition)) ≤ 16 }
+    requires below { All (λ p. p < length values.old.items) (dependencies (definition_lent definition)) }
+    requires place { id < length values.old.items }
+    ensures { OnOk result (values.new.items ≡ slice_set values.old.items id (value_by (definition_lent definition.entry) values.old.items)) }
+{
+    let value = value_by(alloc, definition, values.as_slice())?;
+    values[place(id)] = value;
+    Ok(())
+}
+
 /// The values of all services of the book, by their numbers: each by its last definition over the values of its dependencies.
 /// Every service has a definition. `OutOfMemory` for want of memory alone.
 pub fn central(alloc: Global, book: &Book) -> Result<Vec<Value>, OutOfMemory>
@@ -70,8 +87,7 @@ pub fn central(alloc: Global, book: &Book) -> Result<Vec<Value>, OutOfMemory>
     let mut values = no_values(alloc, book.len())?;
     for id in order.as_slice() {
         let definition = book.history(*id).present().unwrap();
-        let value = value_by(alloc, definition, values.as_slice())?;
-        values[place(*id)] = value;
+        put_value(alloc, definition, *id, &mut values)?;
     }
     Ok(values)
 }

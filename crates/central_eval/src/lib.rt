@@ -1,9 +1,15 @@
-//! The values of all services, computed from a book in one place: what the network of services is compared with.
-//! Each service is computed once, after the services that it depends on.
+//! The values of services, computed from a book in one place: what the network of services is compared with. They are those of
+//! all services by their last definitions, or that of one service at the clocks of stamps. Each service is computed once, after
+//! the services that it depends on.
 #![tactic(auto)]
 
+mod at;
+#[cfg(test)]
+mod at_tests;
 mod evaluation;
+mod reaching;
 #[cfg(test)]
 mod tests;
 
+pub use at::central_at;
 pub use evaluation::central;

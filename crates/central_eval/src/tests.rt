@@ -11,7 +11,12 @@ use svc_graph::{Book, Change, Definition, Formula};
 use svc_value::{Ids, OutOfMemory, Rank, ServiceId, Value, ValueType};
 
 // Declares a service with its first definition.
-fn born(book: &mut Book, name: &str, rank: u16, definition: Definition) -> Result<ServiceId, Fail>
+pub(crate) fn born(
+    book: &mut Book,
+    name: &str,
+    rank: u16,
+    definition: Definition,
+) -> Result<ServiceId, Fail>
     requires rank { rank < 1000 }
     requires form { HasForm rank (Change.Birth definition) }
 {
