@@ -16,7 +16,8 @@ use Rattle.settle_core.specs.Sent.{newest_of, count_of, sent_by}
 use Rattle.settle_core.specs.Turn.{HaveSent}
 use Rattle.settle_core.specs.Node.{sents, IsReady, rests, rests_by, value_of, value_by}
 use Rattle.settle_core.specs.Steps.{after_changes, ArePlain, EachFits, EachReady, all_rest}
-use Rattle.settle_core.specs.Network.{definitions, presents, AreInputs, IsServedBy, EachServed, EachBorn, Keeps, is_quiet, settling}
+use Rattle.svc_text.specs.Rows.{EachBorn}
+use Rattle.settle_core.specs.Network.{definitions, presents, AreInputs, IsServedBy, EachServed, Keeps, is_quiet, settling}
 use Rattle.settle_core.specs.Settling.{Settling, IsSettled}
 use Rattle.settle_core.proofs.Settling.{last_of_born, newest_input, central_at_rest}
 use Rattle.settle_core.proofs.Turning.{both, both_left, both_right}
@@ -25,6 +26,8 @@ module _ (rows : List Row) (nodes : List Node) (left : List PlanChange) (keeps :
   -- where some changes were done
   pub keeps_changes : (new : List Node) (rest : List PlanChange) → after_changes new rest ≡ after_changes nodes left → ArePlain (length new) rest → Keeps rows new rest
   keeps_changes new rest same plain = record {
+    book = keeps.book;
+    low = keeps.low;
     definitions = ap definitions same ∙ keeps.definitions;
     fits = subst (λ ns. EachFits (sents ns) ns) (sym same) keeps.fits;
     plain = plain;
@@ -47,6 +50,8 @@ module _ (rows : List Row) (nodes : List Node) (left : List PlanChange) (keeps :
     keeps_turns new same fits =
         let new_done : after_changes new left ≡ new = ap (after_changes new) none in
         record {
+          book = keeps.book;
+          low = keeps.low;
           definitions = ap definitions new_done ∙ same ∙ same_done;
           fits = subst (λ ns. EachFits (sents ns) ns) (sym new_done) fits;
           plain = subst (ArePlain (length new)) (sym none) tt;

@@ -5,4 +5,4 @@ pub mod Growing
 pub mod Settling
 pub mod Keeping
 pub mod Legs
-pub mod Rewinding
+pub mod ServingLemmas

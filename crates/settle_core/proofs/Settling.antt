@@ -19,7 +19,8 @@ use Rattle.settle_core.specs.Sent.{newest_of}
 use Rattle.settle_core.specs.Turn.{is_newest}
 use Rattle.settle_core.specs.Node.{sents, FitsBy, rests, rests_by, value_of, value_by}
 use Rattle.settle_core.specs.Steps.{EachFits}
-use Rattle.settle_core.specs.Network.{definitions, presents, AreInputs, IsServedBy, EachServed, EachBorn}
+use Rattle.svc_text.specs.Rows.{EachBorn}
+use Rattle.settle_core.specs.Network.{definitions, presents, AreInputs, IsServedBy, EachServed}
 use Rattle.settle_core.proofs.Turns.{holds_newest}
 use Rattle.settle_core.proofs.Turning.{both_left, both_right}
 

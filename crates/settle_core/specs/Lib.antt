@@ -4,4 +4,4 @@ pub mod Node
 pub mod Steps
 pub mod Settling
 pub mod Network
-pub mod Opening
+pub mod Serving

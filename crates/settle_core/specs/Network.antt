@@ -1,10 +1,12 @@
 -- What a network keeps.
-use Rattle.std.specs.Prelude.{◌≡◌, ◌≢◌, ℕ, Bool, ◌&&◌, ◌==◌, List, [], ◌∷◌, map, length, Option, Some, None}
+use Rattle.std.specs.Prelude.{◌≡◌, ◌≤◌, ℕ, Bool, ◌&&◌, ◌==◌, List, [], ◌∷◌, map, length, Option, Some, None}
 use Rattle.svc_graph.specs.declared.definition.Definition.{Definition}
 use Rattle.svc_graph.specs.declared.definition.Definition.TheVariants.{Input, Derived}
-use Rattle.svc_graph.specs.History.{Row, present, history_of}
+use Rattle.svc_graph.specs.Book.{IsBook}
+use Rattle.svc_graph.specs.History.{Row, present, history_of, row_at}
 use Rattle.svc_value.specs.declared.value.Value.{Value}
 use Rattle.svc_text.specs.declared.plan.PlanChange.{PlanChange}
+use Rattle.svc_text.specs.Rows.{EachBorn}
 use Rattle.settle_core.specs.declared.node.Node.{Node}
 use Rattle.settle_core.specs.Node.{value_of}
 use Rattle.settle_core.specs.Settling.{Settling}
@@ -34,13 +36,10 @@ abbrev pub EachServed : List Row → List Row → Type 0
 EachServed rows [] = Unit {0}
 EachServed rows (row ∷ others) = IsServedBy rows row.rank (present row.history) × EachServed rows others
 
--- each service is born
-abbrev pub EachBorn : List Row → Type 0
-EachBorn [] = Unit {0}
-EachBorn (row ∷ rows) = (row.history ≢ []) × EachBorn rows
-
--- what the nodes did, followed by the changes that are left, gives the rows of the book, and fits
+-- what the nodes did, followed by the changes that are left, gives the rows of the book, in which no rank is above 1, and fits
 pub record Keeps (rows : List Row) (nodes : List Node) (left : List PlanChange) : Type 0 where
+  pub book : IsBook rows
+  pub low : (n : ℕ) → (row_at rows n).rank ≤ 1
   pub definitions : definitions (after_changes nodes left) ≡ presents rows
   pub fits : AllFit (after_changes nodes left)
   pub plain : ArePlain (length nodes) left

@@ -6,9 +6,11 @@
 mod network;
 mod node;
 mod opening;
+mod serving;
 mod steps;
 #[cfg(test)]
 mod tests;
 mod turn;
 
 pub use network::Network;
+pub use serving::first_unserved;

@@ -2,16 +2,17 @@
 ghost use Rattle.std.specs.Prelude.{◌≡◌, [], true, map, Some, IfOk, OnOk, OnErr};
 ghost use Rattle.svc_graph.specs.Central.{AreCentral};
 ghost use Rattle.svc_text.specs.Rows.{rows_after, IsLegAfter};
+ghost use Rattle.settle_core.specs.Serving.{IsServed};
 ghost use Rattle.settle_core.specs.Settling.{IsSettled};
 
 use crate::node::Node;
-use crate::opening::{copies, extend, unborn_nodes};
+use crate::opening::{copies, unborn_nodes};
 use crate::steps::{all_rest, settle};
 use std::alloc::Global;
 use std::collections::VecDeque;
 use std::marker::Model;
 use svc_graph::Book;
-use svc_text::{Leg, PlanChange};
+use svc_text::{Leg, PlanChange, extend};
 use svc_value::{OutOfMemory, Value};
 
 /// The services of a book, each as a node of its own. Contracts see the rows of the book, whether anything is left to do, and
@@ -54,11 +55,13 @@ impl Network {
         }
     }
 
-    /// Opens `leg`, which can be taken after what the book has, where nothing is left to do: its services are declared, its
-    /// changes are made in the book, and they are left for the nodes to do. After `OutOfMemory` the network is as it was.
+    /// Opens `leg`, which can be taken after what the book has and is served, where nothing is left to do: its services are
+    /// declared, its changes are made in the book, and they are left for the nodes to do. After `OutOfMemory` the network is as
+    /// it was.
     pub fn open_leg(&mut self, leg: &Leg) -> Result<(), OutOfMemory>
         requires quiet { self.old.quiet ≡ true }
         requires leg { IsLegAfter self.old.rows leg.now }
+        requires served { IsServed leg.now }
         ensures ok { OnOk result (self.new.rows ≡ rows_after self.old.rows leg.now) }
         ensures err { OnErr result (self.new ≡ self.old) }
     {

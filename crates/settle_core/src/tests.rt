@@ -1,16 +1,18 @@
 // Documents, and the values that the network settles to.
-ghost use Rattle.std.specs.Prelude.{◌≡◌, [], true, IfOk};
+ghost use Rattle.std.specs.Prelude.{◌≡◌, [], true, All, IfOk};
 ghost use Rattle.svc_text.specs.Rows.{AreLegsAfter, rows_after_all};
+ghost use Rattle.settle_core.specs.Serving.{IsServed};
 
-use crate::Network;
+use crate::{Network, first_unserved};
 use std::alloc::Global;
 use std::test::Fail;
-use svc_text::{Leg, Mode, read_document};
+use svc_text::{LONGEST_DOCUMENT, Leg, Mode, read_document};
 use svc_value::{OutOfMemory, print_value};
 
 // The network after these legs.
 fn settled(alloc: Global, legs: &[Leg]) -> Result<Network, OutOfMemory>
-    requires { AreLegsAfter [] legs.now }
+    requires legs { AreLegsAfter [] legs.now }
+    requires served { All IsServed legs.now }
     ensures quiet { IfOk result (λ network. network.quiet ≡ true) }
     ensures rows { IfOk result (λ network. network.rows ≡ rows_after_all [] legs.now) }
 {
@@ -22,9 +24,17 @@ fn settled(alloc: Global, legs: &[Leg]) -> Result<Network, OutOfMemory>
     Ok(network)
 }
 
-// The texts of the values after a document, each behind a blank.
+// The texts of the values after a document, each behind a blank; none where it is not served.
 fn values_after(alloc: Global, document: &str) -> Result<Vec<u8>, Fail> {
-    let plan = read_document(alloc, document.as_bytes(), Mode::Step)?;
+    let bytes = document.as_bytes();
+    let plan = read_document(alloc, bytes, Mode::Step)?;
+    if bytes.len() > LONGEST_DOCUMENT {
+        return Ok(Vec::new(alloc));
+    }
+    match first_unserved(alloc, bytes) {
+        Ok(None) => {}
+        _ => return Ok(Vec::new(alloc)),
+    }
     let network = settled(alloc, plan.legs.as_slice())?;
     let mut text = Vec::new(alloc);
     for value in network.values()? {
@@ -61,6 +71,12 @@ fn documents_settle(rt: HostRuntime) -> Result<(), Fail> {
             "input a : int = 9223372036854775807\ninput b : int = 1\nderived t : int rank 1 = a + b\n",
             " 9223372036854775807 1 !overflow",
         ),
+        // Texts and members, and a service of rank 2, which is not served.
+        (
+            "input n : text = \"ab\"\nderived l : int rank 1 = len(n) * 2\ninput k : int = 5\nderived c : int rank 1 = count() over n, k\n",
+            " \"ab\" 4 5 2",
+        ),
+        ("input k : int = 5\nderived d : int rank 2 = k\n", ""),
         // Two new values in one leg, and a sum that comes in a later leg.
         (
             "input a : int = 1\nsettle\nset a = 2\nset a = 5\nderived t : int rank 1 = a + a\n",

@@ -8,7 +8,7 @@ use Rattle.svc_graph.specs.History.{Row, changed}
 use Rattle.svc_text.specs.declared.plan.Leg.{Leg}
 use Rattle.svc_text.specs.declared.plan.PlanChange.{PlanChange}
 use Rattle.svc_text.specs.declared.plan.ServiceLine.{ServiceLine}
-use Rattle.svc_text.specs.Legs.{row_of}
+use Rattle.svc_text.specs.Rows.{row_of}
 use Rattle.svc_text.specs.Rows.{with_services, with_changes, rows_after, AreServicesAfter, AreLegsAfter}
 use Rattle.svc_token.specs.Word.{is_word_byte, is_word, IsName}
 use Rattle.svc_value.specs.Printed.{printed}
