@@ -1,6 +1,6 @@
 -- A run of legs goes on by one leg.
 -- Where `i` legs were run, the rows are those after the front `take i legs`, and the text that was added is theirs; so it stays with one leg more.
-use Rattle.std.proofs.Common.{◌≡◌, ◌∙◌, sym, ap, subst, refl, ℕ, ◌+◌, ◌<◌, true, List, [], ◌++◌, ◌⊎◌, inl, inr, Option, Result, Ok, Err, OnErr, append_assoc, append-nil, length, take, drop, take-append-drop, slice_index_or}
+use Rattle.std.proofs.Common.{◌≡◌, ◌∙◌, sym, ap, subst, refl, ℕ, ◌+◌, ◌<◌, true, List, [], ◌++◌, ◌⊎◌, inl, inr, Option, Result, Ok, Err, OnOk, OnErr, append_assoc, append-nil, length, take, drop, take-append-drop, slice_index_or}
 use Rattle.std.proofs.KnownBytes.{Appends-nil, Appends-trans, Appends-kept}
 use Rattle.std.specs.Io.KnownBytes.{Keeps}
 use Rattle.propagation.specs.History.{Central}
@@ -17,6 +17,11 @@ use Rattle.qprop_cli.proofs.Legs.{leg_at, rows_more, settles_more}
 pub on_error : {T E : Type 0} (result : Result T E) (P : Type 0) → P → OnErr result P
 on_error (Ok value) P p = tt
 on_error (Err error) P p = p
+
+-- and of an answer
+pub on_answer : {T E : Type 0} (result : Result T E) (P : Type 0) → P → OnOk result P
+on_answer (Ok value) P p = p
+on_answer (Err error) P p = tt
 
 -- ---- no leg
 
@@ -37,8 +42,12 @@ module _ (legs : List Leg) (i : ℕ) (leg : Leg) (rows : List Row) (there : i < 
   after : rows_after rows leg ≡ rows_after (rows_after_all [] (take i legs)) (slice_index_or legs i leg)
   after = (λ j. rows_after (before j) (next j))
 
+  -- the rows after the front with this leg
+  pub rows_next : rows_after rows leg ≡ rows_after_all [] (take (i + 1) legs)
+  rows_next = after ∙ sym (rows_more [] legs i leg there)
+
   pub done_more : (new : Settling) → new.rows ≡ rows_after rows leg → new.quiet ≡ true → IsSettled new → HasDone (take (i + 1) legs) new
-  done_more new histories quiet settled = record { histories = histories ∙ after ∙ sym (rows_more [] legs i leg there); quiet = quiet; settled = settled }
+  done_more new histories quiet settled = record { histories = histories ∙ rows_next; quiet = quiet; settled = settled }
 
   settles_block : (text block : List ℕ) → Settles 0 [] (take i legs) text → IsBlock (i + 1) (rows_after rows leg) block → Settles 0 [] (take (i + 1) legs) (text ++ block)
   settles_block text block so_far is =

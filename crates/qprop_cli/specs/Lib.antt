@@ -1,3 +1,4 @@
+pub mod Checked
 pub mod FrameStream
 pub mod FrameText
 pub mod Outcome

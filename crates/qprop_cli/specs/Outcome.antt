@@ -1,15 +1,21 @@
 -- What a call has read and written when it ends.
-use Rattle.std.specs.Prelude.{ℕ, List, [], ◌++◌, Option, None, Some, IfSome}
+use Rattle.std.specs.Prelude.{◌≡◌, ◌⊎◌, ℕ, List, [], ◌++◌, Option, None, Some, IfSome}
 use Rattle.std.specs.Io.KnownBytes.{Appends}
+use Rattle.settle_core.specs.Serving.{IsFirstUnserved}
 use Rattle.settle_core.specs.Settling.{Settling}
 use Rattle.svc_text.specs.declared.plan.Leg.{Leg}
+use Rattle.svc_text.specs.declared.plan.Mode.{Mode}
 use Rattle.svc_text.specs.declared.plan.Mode.TheVariants as mode
+use Rattle.svc_text.specs.declared.refusal.Code.TheVariants.{E04}
 use Rattle.svc_text.specs.declared.refusal.Refusal.{Refusal}
-use Rattle.svc_text.specs.Document.{HasLegs, IsRefusal}
+use Rattle.svc_text.specs.Document.{HasLegs, IsAccepted, IsRefusal}
+use Rattle.svc_text.specs.Generator.{generated}
 use Rattle.trace_text.specs.Settled.{Settles}
 use Rattle.trace_text.specs.Untraced.{untraced}
 use Rattle.qprop_cli.specs.declared.command.Command.{Command}
-use Rattle.qprop_cli.specs.declared.command.Command.TheVariants.{Step, Frames}
+use Rattle.qprop_cli.specs.declared.command.Command.TheVariants.{Step, Check, Central, Frames, Make}
+use Rattle.qprop_cli.specs.declared.command.Size.{Size}
+use Rattle.qprop_cli.specs.Checked.{accepted_line}
 use Rattle.qprop_cli.specs.FrameStream.{HasLines, IsStreamRefusal}
 use Rattle.qprop_cli.specs.Refusals.{refusal_line}
 use Rattle.qprop_cli.specs.Run.{HasDone}
@@ -28,6 +34,24 @@ pub record SettledOutput (left_old left_new held_old held_new : Option (List ℕ
   pub settles : Settles 0 [] legs (untraced added)
   pub network_done : IfSome network (λ n. HasDone legs n)
 
+-- the source was read to its end, what it gave is a document with these legs, and its counts were added
+pub record CheckOutput (left_old left_new held_old held_new : Option (List ℕ)) : Type 0 where
+  pub read : List ℕ
+  pub whole : ReadsWhole left_old left_new read
+  pub legs : List Leg
+  pub accepted : HasLegs mode.Plain read legs
+  pub gained : Appends held_old held_new (accepted_line legs)
+
+-- the source was read to its end, what it gave is a document with these legs, and their settled text was added
+pub record CentralOutput (left_old left_new held_old held_new : Option (List ℕ)) : Type 0 where
+  pub read : List ℕ
+  pub whole : ReadsWhole left_old left_new read
+  pub legs : List Leg
+  pub accepted : HasLegs mode.Plain read legs
+  pub added : List ℕ
+  pub gained : Appends held_old held_new added
+  pub settles : Settles 0 [] legs added
+
 -- the source was read to its end, what it gave is a stream of frames, and what was added is a line for each
 pub record FramesOutput (left_old left_new held_old held_new : Option (List ℕ)) : Type 0 where
   pub read : List ℕ
@@ -36,11 +60,20 @@ pub record FramesOutput (left_old left_new held_old held_new : Option (List ℕ)
   pub gained : Appends held_old held_new added
   pub lines : HasLines read added
 
--- the refusal of what a command reads: of a document by `step`, and of a stream of frames by `frames`
+-- the refusal of an accepted document that the first network does not serve, at its first such line
+pub record IsUnserved (bytes : List ℕ) (refusal : Refusal) : Type 0 where
+  pub accepted : IsAccepted mode.Step bytes
+  pub line : IsFirstUnserved bytes refusal.line
+  pub code : refusal.code ≡ E04
+
+-- the refusal of what a command reads: of a document by `step`, `check` and `central`, and of a stream of frames by `frames`; `make` reads nothing
 abbrev pub IsRefusedBy : Option Command → List ℕ → Refusal → Type 0
 IsRefusedBy None bytes refusal = ⊥
-IsRefusedBy (Some Step) bytes refusal = IsRefusal mode.Step bytes refusal
+IsRefusedBy (Some Step) bytes refusal = IsRefusal mode.Step bytes refusal ⊎ IsUnserved bytes refusal
+IsRefusedBy (Some Check) bytes refusal = IsRefusal mode.Plain bytes refusal
+IsRefusedBy (Some Central) bytes refusal = IsRefusal mode.Plain bytes refusal
 IsRefusedBy (Some Frames) bytes refusal = IsStreamRefusal bytes refusal
+IsRefusedBy (Some (Make size)) bytes refusal = ⊥
 
 -- what the source gave, to its end or one byte past the most that a command reads, has this refusal by the command
 pub record RefusesInput (command : Option Command) (left_old left_new : Option (List ℕ)) (refusal : Refusal) : Type 0 where
@@ -53,12 +86,20 @@ pub record RefusedOutput (command : Option Command) (left_old left_new held_old 
   pub input : RefusesInput command left_old left_new refusal
   pub added : Appends held_old held_new (refusal_line refusal)
 
--- the text that is due: the usage line where the words are no command, else the refusal line, or the blocks of the legs that were run, or the lines of all frames
+-- the command that writes the blocks of a document in this mode
+pub data WritesBlocks : Command → Mode → Type 0 where
+  by_step : WritesBlocks Step mode.Step
+  by_central : WritesBlocks Central mode.Plain
+
+-- the text that is due: the usage line where the words are no command, else the refusal line, or the blocks of the legs that were run, or the line with
+-- the counts, or the lines of all frames, or the document that is made
 pub data IsDue (left_old left_new : Option (List ℕ)) : Option Command → List ℕ → Type 0 where
   usage : IsDue left_old left_new None usage_line
   refusal : {command : Option Command} {refusal : Refusal} → RefusesInput command left_old left_new refusal → IsDue left_old left_new command (refusal_line refusal)
-  blocks : {text : List ℕ} (read : List ℕ) (run left : List Leg) → ReadsWhole left_old left_new read → HasLegs mode.Step read (run ++ left) → Settles 0 [] run text
-      → IsDue left_old left_new (Some Step) text
+  blocks : {text : List ℕ} {command : Command} {written : Mode} → WritesBlocks command written → (read : List ℕ) (run left : List Leg) → ReadsWhole left_old left_new read
+      → HasLegs written read (run ++ left) → Settles 0 [] run text → IsDue left_old left_new (Some command) text
+  counts : (read : List ℕ) (legs : List Leg) → ReadsWhole left_old left_new read → HasLegs mode.Plain read legs → IsDue left_old left_new (Some Check) (accepted_line legs)
+  made : (size : Size) → IsDue left_old left_new (Some (Make size)) (generated size.services size.changes size.start)
   lines : {text : List ℕ} (read : List ℕ) → ReadsWhole left_old left_new read → HasLines read text → IsDue left_old left_new (Some Frames) text
 
 -- what was added is a beginning of the text due

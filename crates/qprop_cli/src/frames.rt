@@ -1,101 +1,48 @@
-// The frames of a stream, as lines.
-ghost use Rattle.std.specs.Prelude.{◌≡◌, ◌++◌, ℕ, flat_map, Ok, Err, None, IfOk, IfSome};
-ghost use Rattle.svc_text.specs.declared.refusal.Refusal.{Refusal as AnyRefusal};
-ghost use Rattle.wire_frame.specs.Frames.{FrameOf};
-ghost use Rattle.wire_frame.specs.Taking.{IsFrame};
-ghost use Rattle.qprop_cli.specs.FrameText.{frame_line};
-ghost use Rattle.qprop_cli.specs.FrameStream.{BeginsWithFrame, HasFrames, IsStreamRefusal, HasLines, AddsLine};
+// The command `frames`.
+ghost use Rattle.std.specs.Prelude.{◌≡◌, ◌≢◌, None, Some};
+ghost use Rattle.std.specs.Io.KnownBytes.{Keeps};
+ghost use Rattle.svc_value.specs.Causes.{Rose};
+ghost use Rattle.qprop_cli.specs.Outcome.{FramesOutput, RefusedOutput, AddsDue};
 
-use crate::LONGEST_DOCUMENT;
-use crate::frame_text::push_frame;
+use crate::answers::refuse;
+use crate::outcome::ended;
+use crate::reading::{ReadError, read_all};
+use crate::stream::{StreamStop, frames_text};
+use crate::writing::write_all;
+use crate::{Command, Outcome, Status};
 use std::alloc::Global;
-use svc_text::{Code, Refusal};
-use svc_value::OutOfMemory;
-use wire_frame::{CutError, Cutter, Frame, FrameError, read_frame};
+use svc_text::Refusal;
+use svc_value::{Sink, Source};
 
-/// Why a stream of frames was not read.
-#[derive(Clone, Copy, Debug, PartialEq, Eq)]
-pub(crate) enum StreamStop {
-    /// The bytes are no stream of frames, or too many.
-    Refused(Refusal),
-    /// Want of memory.
-    OutOfMemory,
-}
-
-impl From<OutOfMemory> for StreamStop {
-    ghost use Rattle.qprop_cli.specs.declared.frames.StreamStop.TheVariants.{OutOfMemory as NoMemory};
-    ghost use Rattle.std.specs.Prelude.{◌≡◌};
-
-    ghost from_gives = { λ _ e. e ≡ NoMemory };
-
-    fn from(_: OutOfMemory) -> Self {
-        StreamStop::OutOfMemory
-    }
-}
-
-/// The frame that the bytes are, all of them; None exactly where they are none.
-fn whole_frame(alloc: Global, item: &[u8]) -> Result<Option<Frame>, OutOfMemory>
-    ensures frame { IfOk result (λ o. IfSome o (λ frame. FrameOf frame item.now)) }
-    ensures none { result ≡ Ok None → IsFrame item.now → ⊥ }
+/// Reads a stream of frames and writes their lines. Nothing is written before the whole stream is read.
+#[tactic(auto, using(crate::proofs::Due::stream_refusal_due, crate::proofs::Due::lines_due, crate::proofs::Due::frames_output))]
+pub(crate) fn frames<S: Source, K: Sink>(alloc: Global, source: &mut S, sink: &mut K) -> Outcome
+    ensures frames { result.status ≡ Status.Done → FramesOutput (S.left source.old) (S.left source.new) (K.held sink.old) (K.held sink.new) }
+    ensures network { result.network ≡ None }
+    ensures no_usage { result.status ≢ Status.Usage }
+    ensures refused { (refusal : Refusal) → result.status ≡ Status.Refused refusal →
+        RefusedOutput (Some Command.Frames) (S.left source.old) (S.left source.new) (K.held sink.old) (K.held sink.new) refusal }
+    ensures read_fault { result.status ≡ Status.ReadFault → Rose (S.faults source.old) (S.faults source.new) }
+    ensures nothing { result.status ≡ Status.ReadFault → Keeps (K.held sink.old) (K.held sink.new) }
+    ensures write_fault { result.status ≡ Status.WriteFault → Rose (K.faults sink.old) (K.faults sink.new) }
+    ensures begun { result.status ≡ Status.WriteFault → AddsDue (Some Command.Frames) (S.left source.old) (S.left source.new) (K.held sink.old) (K.held sink.new) }
+    ensures memory { result.status ≡ Status.OutOfMemory → Keeps (K.held sink.old) (K.held sink.new) }
+    ensures no_keep_fault { result.status ≢ Status.KeepFault }
+    ensures no_state { (result.status ≢ Status.NoState) × (result.status ≢ Status.BadState) }
+    ensures no_verdict { result.status ≢ Status.Illegal }
 {
-    match read_frame(alloc, item) {
-        Ok((frame, len)) if len == item.len() => Ok(Some(frame)),
-        Ok(_) => Ok(None),
-        Err(FrameError::Bad { .. }) => Ok(None),
-        Err(FrameError::OutOfMemory) => Err(OutOfMemory),
-    }
-}
-
-/// Takes the next frame, after its length, off the front of what `cutter` holds, and appends its line to `text`. The answer
-/// is how many bytes it and its length have; None exactly where none stands there.
-fn next_line(
-    alloc: Global,
-    cutter: &mut Cutter,
-    text: &mut Vec<u8>,
-) -> Result<Option<usize>, OutOfMemory>
-    ensures line { IfOk result (λ o. IfSome o (λ size. AddsLine size cutter.old.held cutter.new.held text.old.items text.new.items)) }
-    ensures none { result ≡ Ok None → BeginsWithFrame cutter.old.held → ⊥ }
-{
-    let item = match cutter.next() {
-        Ok(Some(item)) => item,
-        Ok(None) => return Ok(None),
-        Err(CutError::Length { .. }) => return Ok(None),
-        Err(CutError::OutOfMemory) => return Err(OutOfMemory),
+    let bytes = match read_all(alloc, source) {
+        Ok(bytes) => bytes,
+        Err(ReadError::Fault) => return ended(Status::ReadFault),
+        Err(ReadError::OutOfMemory) => return ended(Status::OutOfMemory),
     };
-    let Some(frame) = whole_frame(alloc, item.as_slice())? else {
-        return Ok(None);
+    let text = match frames_text(alloc, &bytes) {
+        Ok(text) => text,
+        Err(StreamStop::Refused(refusal)) => return refuse(alloc, refusal, sink),
+        Err(StreamStop::OutOfMemory) => return ended(Status::OutOfMemory),
     };
-    push_frame(&frame, text)?;
-    Ok(Some(item.len() + 2))
-}
-
-/// The lines of the frames of which `bytes` are a stream, in memory of `alloc`. `Refused` exactly where they are none, or
-/// more than a stream may have; the first wrong frame is told by its number, from 1.
-pub(crate) fn frames_text(alloc: Global, bytes: &[u8]) -> Result<Vec<u8>, StreamStop>
-    ensures lines { IfOk result (λ text. HasLines bytes.now text.items) }
-    ensures refused { (refusal : AnyRefusal) → result ≡ Err (StreamStop.Refused refusal) → IsStreamRefusal bytes.now refusal }
-{
-    if LONGEST_DOCUMENT < bytes.len() {
-        return Err(StreamStop::Refused(Refusal {
-            line: 0,
-            code: Code::E01,
-        }));
+    match write_all(sink, &text) {
+        Ok(()) => ended(Status::Done),
+        Err(_) => ended(Status::WriteFault),
     }
-    let mut cutter = Cutter::new(alloc);
-    cutter.reserve(bytes.len())?;
-    cutter.feed(bytes);
-    let mut text = Vec::new(alloc);
-    let mut number = 1;
-    let mut left = bytes.len();
-    while left > 0 {
-        let Some(size) = next_line(alloc, &mut cutter, &mut text)? else {
-            return Err(StreamStop::Refused(Refusal {
-                line: number,
-                code: Code::E20,
-            }));
-        };
-        left -= size;
-        number += 1;
-    }
-    Ok(text)
 }

@@ -1,20 +1,28 @@
 //! The top call: words, a document or a stream of frames from a source, and the text for a sink.
 #![tactic(auto)]
 
+mod answers;
+mod central;
+mod check;
+mod checking;
 mod command;
+mod evaluating;
 mod frame_text;
 mod frames;
 mod laws;
+mod make;
 mod outcome;
 mod plain;
 mod reading;
 mod refusing;
 mod run;
+mod step;
+mod stream;
 #[cfg(test)]
 mod tests;
 mod writing;
 
-pub use command::{Command, USAGE};
+pub use command::{Command, Size, USAGE};
 pub use laws::streams_are_told;
 pub use outcome::{Outcome, Status};
 pub use plain::qprop_plain;

@@ -1,6 +1,7 @@
 // Settling the legs of a document, one after another.
-ghost use Rattle.std.specs.Prelude.{◌≡◌, ◌≤◌, ◌⊎◌, [], true, length, IfOk, OnOk, OnErr, IsErrOf};
+ghost use Rattle.std.specs.Prelude.{◌≡◌, ◌≤◌, ◌⊎◌, [], true, length, All, IfOk, OnOk, OnErr, IsErrOf};
 ghost use Rattle.std.specs.Io.KnownBytes.{Keeps};
+ghost use Rattle.settle_core.specs.Serving.{IsServed};
 ghost use Rattle.settle_core.specs.Settling.{IsSettled};
 ghost use Rattle.svc_text.specs.Rows.{rows_after, IsLegAfter, AreLegsAfter};
 ghost use Rattle.svc_value.specs.Causes.{Rose};
@@ -54,6 +55,7 @@ fn settle_leg(
 ) -> Result<(), OutOfMemory>
     requires quiet { network.old.quiet ≡ true }
     requires leg { IsLegAfter network.old.rows leg.now }
+    requires served { IsServed leg.now }
     ensures rows { OnOk result (network.new.rows ≡ rows_after network.old.rows leg.now) }
     ensures quiet { OnOk result (network.new.quiet ≡ true) }
     ensures settled { OnOk result (IsSettled network.new) }
@@ -76,6 +78,7 @@ fn write_leg<K: Sink>(
 ) -> Result<(), Stop>
     requires quiet { network.old.quiet ≡ true }
     requires leg { IsLegAfter network.old.rows leg.now }
+    requires served { IsServed leg.now }
     ensures rows { OnOk result (network.new.rows ≡ rows_after network.old.rows leg.now) }
     ensures quiet { OnOk result (network.new.quiet ≡ true) }
     ensures settled { OnOk result (IsSettled network.new) }
@@ -97,6 +100,7 @@ pub(crate) fn settle_legs<K: Sink>(
     sink: &mut K,
 ) -> Result<Network, Stop>
     requires legs { AreLegsAfter [] legs.now }
+    requires served { All IsServed legs.now }
     requires few { length legs.now ≤ 1000 }
     ensures settled { OnOk result (AddsSettled (K.held sink.old) (K.held sink.new) legs.now) }
     ensures network { IfOk result (λ network. HasDone legs.now network) }

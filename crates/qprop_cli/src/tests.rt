@@ -1,11 +1,15 @@
+mod central;
+mod check;
 mod frames;
+mod make;
+mod serving;
+mod shop;
 
 ghost use Rattle.std.specs.Prelude.{◌≤◌};
 
-use crate::{LONGEST_DOCUMENT, Outcome, Status, USAGE, qprop_plain};
+use crate::{Outcome, Status, USAGE, qprop_plain};
 use std::alloc::Global;
 use std::test::Fail;
-use svc_text::{Code, Refusal};
 use svc_value::{Bytes, MemorySink, MemorySource};
 
 // Three services, two legs.
@@ -82,6 +86,11 @@ fn documents_settle(rt: HostRuntime) -> Result<(), Fail> {
             "settle 1\na 3\n",
         ),
         (
+            "texts and members",
+            "input n : text = \"ab\"\nderived l : int rank 1 = len(n)\nderived c : int rank 1 = count() over n\nset n = \"abc\"\n",
+            "settle 1\nn \"abc\"\nl 3\nc 1\n",
+        ),
+        (
             "a service of a later leg",
             "input a : int = 1\nsettle\nset a = 2\nderived t : int rank 01 = a + a\nset a = 5\n",
             "settle 1\na 1\nsettle 2\na 5\nt 10\n",
@@ -93,65 +102,6 @@ fn documents_settle(rt: HostRuntime) -> Result<(), Fail> {
         assert!(rt; ended.outcome.network.is_some(), "{name}");
         assert!(rt; ended.held.as_slice() == text.as_bytes(), "{name}");
     }
-    Ok(())
-}
-
-#[test]
-fn documents_are_refused(rt: HostRuntime) -> Result<(), Fail> {
-    let alloc = rt.alloc();
-    let rows = [
-        ("no line of the grammar", "input a : int = 3\nprint a\n", 2),
-        ("a name twice", "input a : int = 3\ninput a : int = 4\n", 2),
-        (
-            "a derived service set",
-            "input a : int = 1\nderived t : int rank 1 = a + a\nset t = 1\n",
-            3,
-        ),
-        ("a name not declared", "set a = 1\n", 1),
-        (
-            "a sum of a sum",
-            "input a : int = 1\nderived t : int rank 1 = a + a\nderived u : int rank 1 = t + a\n",
-            3,
-        ),
-        (
-            "a product",
-            "input a : int = 1\nderived t : int rank 1 = a * a\n",
-            2,
-        ),
-        ("a text", "input a : text = \"x\"\n", 1),
-        (
-            "another rank",
-            "input a : int = 1\nderived t : int rank 2 = a + a\n",
-            2,
-        ),
-        (
-            "a number past the end",
-            "input a : int = 9223372036854775808\n",
-            1,
-        ),
-        ("a reserved word", "input set : int = 1\n", 1),
-        (
-            "a name of 33 bytes",
-            "input aaaaaaaaaaaaaaaaaaaaaaaaaaaaaaaaa : int = 1\n",
-            1,
-        ),
-        (
-            "words without a blank",
-            "input a : int = 1\nsettleset a = 1\n",
-            2,
-        ),
-    ];
-    for (name, document, line) in rows {
-        let ended = step(alloc, document.as_bytes())?;
-        let refusal = Refusal {
-            line,
-            code: Code::E04,
-        };
-        assert!(rt; ended.outcome.status == Status::Refused(refusal), "{name}");
-        assert!(rt; ended.outcome.network.is_none(), "{name}");
-    }
-    let ended = step(alloc, b"input a : int = 1\nset a = \xff\n")?;
-    assert_eq!(rt; ended.held.as_slice(), b"refused 2 E04\n".as_slice());
     Ok(())
 }
 
@@ -205,7 +155,7 @@ fn called(alloc: Global, words: &[&str]) -> Result<Ended, Fail> {
         all.push(String::from_str(alloc, word)?)?;
     }
     let mut source = MemorySource::new(Bytes::new(alloc), 1, Vec::new(alloc));
-    let mut sink = MemorySink::new(alloc, 4096, 4096, Vec::new(alloc))?;
+    let mut sink = MemorySink::new(alloc, 65536, 4096, Vec::new(alloc))?;
     let outcome = qprop_plain(alloc, &all, &mut source, &mut sink);
     let held = Vec::from_slice(alloc, sink.held())?;
     Ok(Ended { outcome, held })
@@ -214,7 +164,7 @@ fn called(alloc: Global, words: &[&str]) -> Result<Ended, Fail> {
 #[test]
 fn other_words_write_the_usage_line(rt: HostRuntime) -> Result<(), Fail> {
     let alloc = rt.alloc();
-    let rows: [&[&str]; 8] = [
+    let rows: [&[&str]; 10] = [
         &[],
         &["run"],
         &["step", "step"],
@@ -222,6 +172,8 @@ fn other_words_write_the_usage_line(rt: HostRuntime) -> Result<(), Fail> {
         &["frame"],
         &["Step"],
         &["step "],
+        &["check", "--"],
+        &["central", "--trace"],
         &["--help"],
     ];
     for words in rows {
@@ -242,53 +194,4 @@ fn repeated(alloc: Global, before: &str, line: &str, count: usize) -> Result<Vec
         document.extend_from_slice(line.as_bytes())?;
     }
     Ok(document)
-}
-
-// So many inputs, named `s0`, `s1` and so on.
-fn inputs(alloc: Global, count: u32) -> Result<Vec<u8>, Fail> {
-    let mut document = Vec::new(alloc);
-    for number in 0..count {
-        let line = format!(in alloc; "input s{number} : int = 1\n")?;
-        document.extend_from_slice(line.as_bytes())?;
-    }
-    Ok(document)
-}
-
-#[test]
-fn limits_are_exact(rt: HostRuntime) -> Result<(), Fail> {
-    let alloc = rt.alloc();
-    let x = "input x : int = 0\n";
-    let comment = repeated(alloc, "#", "c", LONGEST_DOCUMENT)?;
-    let long = repeated(alloc, "#", "c", 4096)?;
-    let rows = [
-        ("64 services", inputs(alloc, 64)?, None),
-        ("65 services", inputs(alloc, 65)?, Some((65, Code::E04))),
-        (
-            "1,024 changes",
-            repeated(alloc, x, "set x = 1\n", 1023)?,
-            None,
-        ),
-        (
-            "1,025 changes",
-            repeated(alloc, x, "set x = 1\n", 1024)?,
-            Some((1025, Code::E04)),
-        ),
-        ("1,000 legs", repeated(alloc, "", "settle\n", 1000)?, None),
-        (
-            "1,001 legs",
-            repeated(alloc, "", "settle\n", 1001)?,
-            Some((1001, Code::E04)),
-        ),
-        ("a line of 4,097 bytes", long, Some((1, Code::E04))),
-        ("1,048,577 bytes", comment, Some((0, Code::E01))),
-    ];
-    for (name, document, refused) in rows {
-        let ended = step(alloc, document.as_slice())?;
-        let status = match refused {
-            None => Status::Done,
-            Some((line, code)) => Status::Refused(Refusal { line, code }),
-        };
-        assert!(rt; ended.outcome.status == status, "{name}");
-    }
-    Ok(())
 }

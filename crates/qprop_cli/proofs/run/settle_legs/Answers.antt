@@ -1,4 +1,5 @@
-use Rattle.std.proofs.Common.{arith}
+use Rattle.std.proofs.Common.{arith, subst, sym}
+use Rattle.settle_core.specs.Serving.{IsServed}
 use Rattle.qprop_cli.proofs.Runs.{done_none, settled_none, next_leg, done_more, settled_more, stopped, on_error}
 use Rattle.qprop_cli.proofs.run.settle_legs.Goals as goal
 
@@ -23,3 +24,6 @@ loop-i-preserved g c =
       settled_more c.args.legs.now c.loop-i.i c.index-legs-i.result c.loop-i.network.rows (omega arith) c.index-legs-i.is c.loop-i.invariant.1.histories
           (g.K.Sink.held c.args.sink.now) (g.K.Sink.held c.loop-i.sink) (g.K.Sink.held c.write_leg.new.sink) c.loop-i.invariant.2 ok.added,
     )
+
+pub write_leg-requires-clause-served : goal.write_leg-requires-clause-served
+write_leg-requires-clause-served g c = subst IsServed (sym c.index-legs-i.is) (c.requires.served c.loop-i.i c.index-legs-i.result (omega arith))

@@ -1,6 +1,6 @@
 use Rattle.std.proofs.Common.{◌≡◌, ◌≤◌, ◌+◌, length}
 use Rattle.qprop_cli.proofs.Streaming.{IsReadSoFar}
-use Rattle.qprop_cli.proofs.frames.frames_text.Given as goal
+use Rattle.qprop_cli.proofs.stream.frames_text.Given as goal
 
 abbrev pub invariant-loop-left : goal.invariant-loop-left
 invariant-loop-left l = record {

@@ -1,7 +1,7 @@
 use Rattle.std.proofs.Common.{◌∙◌, sym, ap, subst, Ok, Err}
 use Rattle.wire_frame.specs.Taking.{IsFrame}
 use Rattle.qprop_cli.proofs.Streaming.{no_long, no_item}
-use Rattle.qprop_cli.proofs.frames.next_line.Goals as goal
+use Rattle.qprop_cli.proofs.stream.next_line.Goals as goal
 
 pub returns-in-Err-Length-clause-none : goal.returns-in-Err-Length-clause-none
 returns-in-Err-Length-clause-none c _ =

@@ -1,6 +1,6 @@
 use Rattle.std.proofs.Common.{◌≡◌, ◌∙◌, ap, ◌++◌, arith, length}
 use Rattle.qprop_cli.proofs.Streaming.{read_none, read_more, size_gone}
-use Rattle.qprop_cli.proofs.frames.frames_text.Goals as goal
+use Rattle.qprop_cli.proofs.stream.frames_text.Goals as goal
 
 pub loop-left-init : goal.loop-left-init
 loop-left-init c =

@@ -1,7 +1,7 @@
 use Rattle.std.proofs.Common.{◌∙◌, ap, subst, List, ℕ, Err}
 use Rattle.qprop_cli.specs.FrameStream.{IsStreamRefusal}
 use Rattle.qprop_cli.proofs.Due.{stream_refusal_due}
-use Rattle.qprop_cli.proofs.plain.frames.Goals as goal
+use Rattle.qprop_cli.proofs.frames.frames.Goals as goal
 
 pub returns-in-Err-Refused-clause-begun : goal.returns-in-Err-Refused-clause-begun
 returns-in-Err-Refused-clause-begun g c cut =
