@@ -1,0 +1,58 @@
+-- The bytes of frames: how many they are, and those under another epoch.
+use Rattle.std.proofs.Common.{◌≡◌, ℕ, ◌+◌, ◌*◌, ◌<◌, ◌≤◌, ◌^◌, ◌++◌, List, [], ◌∷◌, length, flat_map, refl, ap, arith}
+use Rattle.std.proofs.lemmas.List.{length-append}
+use Rattle.svc_value.specs.Layout.{layout}
+use Rattle.wire_frame.specs.declared.frame.Announced.{Announced}
+use Rattle.wire_frame.specs.declared.frame.Delta.{Delta}
+use Rattle.wire_frame.specs.declared.frame.Frame.TheVariants.{Sources, Changed}
+use Rattle.wire_frame.specs.Frames.{FrameOf, IsDelta, frame_bytes, half, place_clock}
+use Rattle.wire_frame.proofs.Rising.{places_fit}
+use Rattle.node_core.specs.Mail.{with_epoch, Adds}
+
+-- items of one length
+flat_length : {X : Type 0} (f : X → List ℕ) (size : ℕ) → ((x : X) → length (f x) ≡ size) → (xs : List X) → length (flat_map f xs) ≡ size * length xs
+flat_length f size each [] = omega arith
+flat_length f size each (x ∷ xs) =
+    let rest : length (flat_map f xs) ≡ size * length xs = flat_length f size each xs in
+    grind (arith, each x, length-append (f x) (flat_map f xs))
+
+pub announced_length : (a : Announced) → length (frame_bytes (Sources a)) ≡ 6 + 2 * length a.keys
+announced_length a = omega (arith, flat_length half 2 (λ x. refl) a.keys)
+
+pub delta_length : (d : Delta) → length (frame_bytes (Changed d)) ≡ 6 + length (layout d.value) + 5 * length d.clocks
+delta_length d = omega (arith, flat_length place_clock 5 (λ x. refl) d.clocks, length-append (layout d.value) (length d.clocks ∷ flat_map place_clock d.clocks))
+
+pub few_clocks : (d : Delta) → IsDelta d → length d.clocks ≤ 64
+few_clocks d is = omega (arith, places_fit 0 d.clocks (omega arith) is.rise is.below)
+
+-- ---- another epoch
+
+pub long_sources : (a : Announced) (bytes : List ℕ) → FrameOf (Sources a) bytes → 5 ≤ length bytes
+long_sources a bytes of = omega (arith, ap (λ (bs : List ℕ). length bs) of.is)
+
+pub long_value : (d : Delta) (bytes : List ℕ) → FrameOf (Changed d) bytes → 5 ≤ length bytes
+long_value d bytes of = omega (arith, ap (λ (bs : List ℕ). length bs) of.is)
+
+pub sources_under : (a : Announced) (bytes : List ℕ) (epoch : ℕ) → FrameOf (Sources a) bytes → 1 ≤ epoch → epoch < 2 ^ 32 → FrameOf (Sources (record a { epoch = epoch })) (with_epoch epoch bytes)
+sources_under a bytes epoch of some fits =
+    record {
+      within = record { epoch = some; some = of.within.some; most = of.within.most; rise = of.within.rise };
+      fits = (fits, of.fits.1);
+      is = ap (λ (bs : List ℕ). with_epoch epoch bs) of.is;
+    }
+
+pub value_under : (d : Delta) (bytes : List ℕ) (epoch : ℕ) → FrameOf (Changed d) bytes → 1 ≤ epoch → epoch < 2 ^ 32 → FrameOf (Changed (record d { epoch = epoch })) (with_epoch epoch bytes)
+value_under d bytes epoch of some fits =
+    record {
+      within = record { epoch = some; rise = of.within.rise; below = of.within.below };
+      fits = (fits, of.fits.1, of.fits.2);
+      is = ap (λ (bs : List ℕ). with_epoch epoch bs) of.is;
+    }
+
+pub adds_sources : (q : ℕ) (a : Announced) (bytes : List ℕ) (epoch : ℕ) (old new : List (ℕ × List ℕ)) → FrameOf (Sources a) bytes → 1 ≤ epoch → epoch < 2 ^ 32 → new ≡ old ++ (q, with_epoch epoch bytes) ∷ [] →
+    Adds q (Sources (record a { epoch = epoch })) old new
+adds_sources q a bytes epoch old new of some fits added = record { bytes = with_epoch epoch bytes; frame_of = sources_under a bytes epoch of some fits; added = added }
+
+pub adds_value : (q : ℕ) (d : Delta) (bytes : List ℕ) (epoch : ℕ) (old new : List (ℕ × List ℕ)) → FrameOf (Changed d) bytes → 1 ≤ epoch → epoch < 2 ^ 32 → new ≡ old ++ (q, with_epoch epoch bytes) ∷ [] →
+    Adds q (Changed (record d { epoch = epoch })) old new
+adds_value q d bytes epoch old new of some fits added = record { bytes = with_epoch epoch bytes; frame_of = value_under d bytes epoch of some fits; added = added }

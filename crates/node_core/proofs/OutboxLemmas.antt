@@ -1,0 +1,94 @@
+-- Frames that are taken out and put back.
+use Rattle.std.proofs.Common.{◌≡◌, ◌≢◌, ℕ, zero, suc, ◌<◌, ◌+◌, ◌==◌, Bool, true, false, cond, List, [], ◌∷◌, ◌++◌, length, slice_index_or, Option, Some, None, refl, sym, ap, ◌∙◌, arith, option_to_list, ltb, ◌≤◌, ltb-false, eqb-true, subst, append_assoc}
+use Rattle.std.proofs.lemmas.Bool.{cond-true, cond-false, eqb-false}
+use Rattle.std.proofs.lemmas.List.Quantifiers.{position-Some}
+use Rattle.std.proofs.lemmas.List.Edits.{length-remove}
+use Rattle.std.specs.List.{remove, prefix_len}
+use Rattle.std.proofs.Common.{not}
+use Rattle.node_core.specs.declared.entry.Entry.{Entry}
+use Rattle.node_core.specs.Entries.{sent_to}
+use Rattle.node_core.specs.Outbox.{waiting, first_to, TakesOut}
+use Rattle.node_core.specs.View.{IsPosted}
+
+-- where no frame before is to the service, the one at the place is its oldest
+pub own_at : (q : ℕ) (posts : List (ℕ × List ℕ)) (i : ℕ) (x : ℕ × List ℕ) → i < length posts → x ≡ slice_index_or posts i x → (x.0 == q) ≡ true →
+    ((k : ℕ) → k < i → ((slice_index_or posts k x).0 == q) ≡ false) → waiting q posts ≡ x.1 ∷ waiting q (remove posts i)
+own_at q [] i x lt is own none = absurd (omega arith)
+own_at q (y ∷ rest) zero x lt is own none =
+    cond-true (y.0 == q) (y.1 ∷ waiting q rest) (waiting q rest) (ap (λ (z : ℕ × List ℕ). z.0 == q) (sym is) ∙ own)
+    ∙ ap (λ (z : ℕ × List ℕ). z.1 ∷ waiting q rest) (sym is)
+own_at q (y ∷ rest) (suc i) x lt is own none =
+    cond-false (y.0 == q) (y.1 ∷ waiting q rest) (waiting q rest) (none 0 (omega arith))
+    ∙ own_at q rest i x (omega arith) is own (λ k h. none (suc k) (omega arith))
+    ∙ ap (λ zs. x.1 ∷ zs) (sym (cond-false (y.0 == q) (y.1 ∷ waiting q (remove rest i)) (waiting q (remove rest i)) (none 0 (omega arith))))
+
+-- the frames to another service stay
+pub others_at : (p q : ℕ) (posts : List (ℕ × List ℕ)) (i : ℕ) (x : ℕ × List ℕ) → i < length posts → x ≡ slice_index_or posts i x → (x.0 == p) ≡ false →
+    waiting p (remove posts i) ≡ waiting p posts
+others_at p q [] i x lt is other = absurd (omega arith)
+others_at p q (y ∷ rest) zero x lt is other =
+    sym (cond-false (y.0 == p) (y.1 ∷ waiting p rest) (waiting p rest) (ap (λ (z : ℕ × List ℕ). z.0 == p) (sym is) ∙ other))
+others_at p q (y ∷ rest) (suc i) x lt is other = ap (λ zs. cond (y.0 == p) (y.1 ∷ zs) zs) (others_at p q rest i x (omega arith) is other)
+
+-- where all are to others none waits
+pub all_others : (q : ℕ) (posts : List (ℕ × List ℕ)) → length posts ≤ prefix_len (λ post. not (post.0 == q)) posts → waiting q posts ≡ []
+all_others q [] h = refl
+all_others q (y ∷ rest) h = go (y.0 == q) h (all_others q rest)
+  where
+    go : (b : Bool) → suc (length rest) ≤ cond (not b) (1 + prefix_len (λ post. not (post.0 == q)) rest) 0 →
+        (length rest ≤ prefix_len (λ post. not (post.0 == q)) rest → waiting q rest ≡ []) → cond b (y.1 ∷ waiting q rest) (waiting q rest) ≡ []
+    go true less rec = absurd (omega (arith, less))
+    go false less rec = rec (omega (arith, less))
+
+-- without a frame to the service none waits
+pub none_to : (q : ℕ) (posts : List (ℕ × List ℕ)) → first_to q posts ≡ None → waiting q posts ≡ []
+none_to q posts is = go (ltb (prefix_len (λ post. not (post.0 == q)) posts) (length posts)) refl is
+  where
+    go : (b : Bool) → ltb (prefix_len (λ post. not (post.0 == q)) posts) (length posts) ≡ b →
+        cond b (Some (prefix_len (λ post. not (post.0 == q)) posts)) None ≡ None → waiting q posts ≡ []
+    go true t gone = absurd (cc gone)
+    go false t gone = all_others q posts (ltb-false _ _ t)
+
+-- what is one service is not another
+not_both : (a p q : ℕ) → (a == q) ≡ true → p ≢ q → (a == p) ≡ false
+not_both a p q own ne = go (a == p) refl
+  where
+    go : (b : Bool) → (a == p) ≡ b → b ≡ false
+    go true e = absurd (ne (sym (eqb-true a p e) ∙ eqb-true a q own))
+    go false e = refl
+
+-- the oldest frame to a service is taken out
+pub takes_out : (q : ℕ) (posts : List (ℕ × List ℕ)) (i : ℕ) (x : ℕ × List ℕ) → first_to q posts ≡ Some i → x ≡ slice_index_or posts i x →
+    TakesOut q posts (remove posts i) (Some x.1)
+takes_out q posts i x at is =
+    let found : (i < length posts) × (((slice_index_or posts i x).0 == q) ≡ true) × ((k : ℕ) → k < i → ((slice_index_or posts k x).0 == q) ≡ false) = position-Some (λ post. post.0 == q) posts i x at in
+    let own : (x.0 == q) ≡ true = ap (λ (z : ℕ × List ℕ). z.0 == q) is ∙ found.1 in
+    record {
+      own = own_at q posts i x found.0 is own found.2;
+      none = λ e. absurd (cc e);
+      others = λ p ne. others_at p q posts i x found.0 is (not_both x.0 p q own ne);
+      count = sym (length-remove posts i found.0);
+    }
+
+-- what is taken out was handed over
+pub posted_out : (entries : List Entry) (q : ℕ) (old new : List (ℕ × List ℕ)) (taken : Option (List ℕ)) → TakesOut q old new taken → IsPosted entries old → IsPosted entries new
+posted_out entries q old new taken out posted p = go (p == q) refl
+  where
+    go : (b : Bool) → (p == q) ≡ b → (gone : List (List ℕ)) × (sent_to p entries ≡ gone ++ waiting p new)
+    go true e =
+        let P : ℕ → Type 0 = λ k. (gone : List (List ℕ)) × (sent_to k entries ≡ gone ++ waiting k new) in
+        subst P (sym (eqb-true p q e)) ((posted q).0 ++ option_to_list taken, (posted q).1 ∙ ap (λ zs. (posted q).0 ++ zs) out.own ∙ sym (append_assoc (posted q).0 (option_to_list taken) (waiting q new)))
+    go false e = ((posted p).0, (posted p).1 ∙ ap (λ zs. (posted p).0 ++ zs) (sym (out.others p (eqb-false p q e))))
+
+-- and what is put back was not
+pub posted_back : (entries : List Entry) (q : ℕ) (b : List ℕ) (posts : List (ℕ × List ℕ)) → (gone : List (List ℕ)) × (sent_to q entries ≡ gone ++ b ∷ waiting q posts) →
+    IsPosted entries posts → IsPosted entries ((q, b) ∷ posts)
+posted_back entries q b posts last posted p = go (q == p) refl
+  where
+    go : (t : Bool) → (q == p) ≡ t → (gone : List (List ℕ)) × (sent_to p entries ≡ gone ++ cond t (b ∷ waiting p posts) (waiting p posts))
+    go true e = let P : ℕ → Type 0 = λ k. (gone : List (List ℕ)) × (sent_to k entries ≡ gone ++ b ∷ waiting k posts) in subst P (eqb-true q p e) last
+    go false e = posted p
+
+-- equal lists are posted alike
+pub posted_same : (old new : List Entry) (before after : List (ℕ × List ℕ)) → new ≡ old → after ≡ before → IsPosted old before → IsPosted new after
+posted_same old new before after e f was = let P : List Entry → Type 0 = λ entries. IsPosted entries after in let Q : List (ℕ × List ℕ) → Type 0 = λ posts. IsPosted old posts in subst P (sym e) (subst Q (sym f) was)

@@ -1,0 +1,38 @@
+-- How the fields of a node are the service that contracts see.
+use Rattle.std.specs.Prelude.{◌≤◌, drop, length}
+use Rattle.propagation.specs.Logs.{stamps_of}
+use Rattle.node_core.specs.declared.node.Node.TheInside.{Inside}
+use Rattle.node_core.specs.Coming.{coming}
+use Rattle.node_core.specs.View.{Service, told_all, AreInOrder, AreCounted, AreWithin, IsDefined}
+
+-- the service
+abbrev pub service_of : Inside → Service
+service_of n = record {
+  state = record {
+    id = n.id;
+    own = n.own;
+    by = n.by;
+    left = coming n.by (drop n.done n.changes.items);
+    due = n.due;
+    edges = n.edges;
+    slots = n.slots.items;
+    readers = told_all (stamps_of n.last) n.readers.present;
+    past = n.readers.past;
+    floor = n.floor;
+    last = n.last;
+  };
+  roster = n.roster;
+  changes = n.changes.items;
+  entries = n.journal.entries;
+  outbox = n.journal.outbox;
+  handed = n.journal.handed;
+}
+
+-- what its fields keep
+pub record IsNode (n : Inside) : Type 0 where
+  pub few : length n.roster ≤ 64
+  pub within : n.done ≤ length n.changes.items
+  pub defined : IsDefined n.id n.own n.by (coming n.by (drop n.done n.changes.items))
+  pub in_order : AreInOrder n.edges n.slots.items
+  pub within_layout : AreWithin n.edges n.readers.present n.last
+  pub counted : AreCounted n.journal.entries n.slots.items

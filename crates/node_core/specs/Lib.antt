@@ -1,0 +1,16 @@
+pub mod Entries
+pub mod Outbox
+pub mod Coming
+pub mod View
+pub mod Inside
+pub mod Mail
+pub mod Posts
+pub mod Journals
+pub mod Computing
+pub mod Answers
+pub mod Rewiring
+pub mod Lives
+pub mod Ranks
+pub mod Taking
+pub mod Hearing
+pub mod Samples

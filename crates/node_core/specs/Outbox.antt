@@ -1,0 +1,19 @@
+-- Frames on their way out, oldest first, each with the service that is to take it.
+use Rattle.std.specs.Prelude.{◌≡◌, ◌≢◌, ℕ, ◌+◌, ◌==◌, List, [], ◌∷◌, ◌++◌, length, position, if◌then◌else◌, Option, option_to_list}
+use Rattle.std.proofs.Common.{None}
+
+-- those to one service
+abbrev pub waiting : ℕ → List (ℕ × List ℕ) → List (List ℕ)
+waiting q [] = []
+waiting q (post ∷ rest) = if post.0 == q then post.1 ∷ waiting q rest else waiting q rest
+
+-- the place of the first to a service
+abbrev pub first_to : ℕ → List (ℕ × List ℕ) → Option ℕ
+first_to q posts = position (λ post. post.0 == q) posts
+
+-- the oldest to a service is taken out, if there is one
+pub record TakesOut (q : ℕ) (old new : List (ℕ × List ℕ)) (taken : Option (List ℕ)) : Type 0 where
+  pub own : waiting q old ≡ option_to_list taken ++ waiting q new
+  pub none : taken ≡ None → (waiting q old ≡ []) × (new ≡ old)
+  pub others : (p : ℕ) → p ≢ q → waiting p new ≡ waiting p old
+  pub count : length old ≡ length new + length (option_to_list taken)

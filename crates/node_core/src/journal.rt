@@ -1,0 +1,126 @@
+// What was done in a leg, and the frames that were sent in it and not yet handed over.
+ghost use Rattle.std.specs.Prelude.{◌≡◌, ◌+◌, ◌-◌, ◌≤◌, ◌<◌, [], ◌∷◌, ◌++◌, ℕ, ◌↔◌, length, option_to_list, OnOk, IsTrue};
+ghost use Rattle.std.specs.VecDeque.{deque_len, deque_capacity};
+ghost use Rattle.node_core.specs.Entries.{sent_entries, sent_to};
+ghost use Rattle.node_core.specs.Outbox.{TakesOut};
+
+use crate::Entry;
+use crate::mail::Mail;
+use crate::outbox::{put_all, take_out};
+use std::alloc::Global;
+use std::collections::VecDeque;
+use std::marker::Model;
+use svc_value::{Bytes, OutOfMemory, ServiceId};
+
+/// The log of a leg, oldest entry first, the frames that wait to be handed over, and how many of the leg were. Contracts also
+/// see how many entries and frames more there is room for.
+#[derive(Drop)]
+pub(crate) struct Journal {
+    log: Vec<Entry>,
+    outbox: VecDeque<(ServiceId, Bytes)>,
+    handed: usize,
+}
+
+impl Model for Journal {
+    ghost use Rattle.node_core.specs.View.{Kept};
+
+    ghost Value = { Kept };
+
+    ghost use Rattle.node_core.specs.Journals.{kept_of, IsJournal};
+
+    ghost view = { kept_of };
+
+    ghost invariant = { IsJournal };
+}
+
+impl Journal {
+    ghost use Rattle.node_core.specs.View.{SameKept, IsLastOut};
+
+    // Nothing was done.
+    pub(crate) fn new(alloc: Global) -> Journal
+        ensures entries { result.entries ≡ [] }
+        ensures outbox { result.outbox ≡ [] }
+        ensures handed { result.handed ≡ 0 }
+    {
+        Journal {
+            log: Vec::new(alloc),
+            outbox: VecDeque::new(alloc),
+            handed: 0,
+        }
+    }
+
+    // Makes room for an entry and for so many frames after it.
+    pub(crate) fn reserve(&mut self, frames: usize) -> Result<(), OutOfMemory>
+        ensures same { SameKept self.old self.new }
+        ensures entries { OnOk result (frames < self.new.entry_room) }
+        ensures posts { OnOk result (frames ≤ self.new.post_room) }
+    {
+        self.log.reserve(frames.checked_add(1).ok_or(OutOfMemory)?)?;
+        self.outbox
+            .reserve(frames.checked_add(self.handed).ok_or(OutOfMemory)?)?;
+        Ok(())
+    }
+
+    // An entry and the frames that are sent after it, for which there is room.
+    #[tactic(auto, using(crate::proofs::PostLemmas::length_posted))]
+    pub(crate) fn record(&mut self, first: Entry, mail: Mail)
+        requires entries { length mail < self.old.entry_room }
+        requires posts { length mail ≤ self.old.post_room }
+        requires first { (q : ℕ) → sent_to q (first ∷ []) ≡ [] }
+        ensures entries { self.new.entries ≡ self.old.entries ++ first ∷ sent_entries mail }
+        ensures outbox { self.new.outbox ≡ self.old.outbox ++ mail }
+        ensures handed { self.new.handed ≡ self.old.handed }
+    {
+        self.log.push_reserved(first);
+        let Mail { posts, .. } = mail;
+        put_all(&mut self.log, &mut self.outbox, posts);
+    }
+
+    // The entries, oldest first.
+    pub(crate) fn entries(&self) -> &[Entry]
+        ensures { result.now ≡ self.now.entries }
+    {
+        self.log.as_slice()
+    }
+
+    // Whether every frame was handed over.
+    pub(crate) fn is_handed(&self) -> bool
+        ensures { IsTrue result ↔ (self.now.outbox ≡ []) }
+    {
+        self.outbox.is_empty()
+    }
+
+    // Forgets what was done, where every frame was handed over.
+    pub(crate) fn clear(&mut self)
+        requires { self.old.outbox ≡ [] }
+        ensures entries { self.new.entries ≡ [] }
+        ensures outbox { self.new.outbox ≡ [] }
+        ensures handed { self.new.handed ≡ 0 }
+    {
+        self.log.clear();
+        self.handed = 0;
+    }
+
+    // Takes out the oldest frame to a service.
+    pub(crate) fn next_out(&mut self, to: ServiceId) -> Option<Bytes>
+        ensures out { TakesOut to self.old.outbox self.new.outbox result }
+        ensures entries { self.new.entries ≡ self.old.entries }
+        ensures handed { self.new.handed ≡ self.old.handed + length (option_to_list result) }
+    {
+        let frame = take_out(&mut self.outbox, to)?;
+        self.handed += 1;
+        Some(frame)
+    }
+
+    // Puts the frame back that was taken out last of those to a service.
+    pub(crate) fn give_back(&mut self, to: ServiceId, bytes: Bytes)
+        requires out { 0 < self.old.handed }
+        requires last { IsLastOut to bytes self.old.entries self.old.outbox }
+        ensures outbox { self.new.outbox ≡ (to, bytes) ∷ self.old.outbox }
+        ensures entries { self.new.entries ≡ self.old.entries }
+        ensures handed { self.new.handed ≡ self.old.handed - 1 }
+    {
+        self.outbox.push_front_reserved((to, bytes));
+        self.handed -= 1;
+    }
+}

@@ -1,0 +1,31 @@
+//! One service as it runs: a node that does the changes of a leg, takes frames from other services and turns, and keeps a log
+//! of all that it did. Each call is one step of the machine of `service_machine`.
+#![tactic(auto)]
+
+mod computing;
+mod definitions;
+mod encoding;
+mod entry;
+mod errors;
+mod hearing;
+mod journal;
+mod mail;
+mod node;
+mod outbox;
+mod ranks;
+mod reading;
+mod refusing;
+mod reports;
+mod rewiring;
+mod slots;
+mod telling;
+mod testing;
+#[cfg(test)]
+mod tests;
+mod turned;
+mod welcome;
+
+pub use entry::{Computation, Entry, Picks};
+pub use errors::TakeRefusal;
+pub use node::Node;
+pub use turned::Turned;

@@ -1,0 +1,169 @@
+// Frames that a service takes.
+ghost use Rattle.std.specs.Prelude.{◌≡◌, IfErr, OnOk, None};
+ghost use Rattle.propagation.specs.Logs.Frame.{Subscribe as TheSubscribe, Unsubscribe as TheUnsubscribe, Sources as TheSources, Changed as TheChanged};
+ghost use Rattle.service_machine.specs.Steps.{took, took_log};
+ghost use Rattle.wire_frame.specs.declared.frame.Frame.TheVariants.{Subscribe as IsSubscribe, Unsubscribe as IsUnsubscribe, Sources as IsSources, Changed as IsChanged};
+ghost use Rattle.wire_frame.specs.Frames.{FrameOf, pairs};
+
+use super::Node;
+use crate::hearing::{announce, put};
+use crate::mail::Mail;
+use crate::ranks::is_below;
+use crate::reading::whole_frame;
+use crate::refusing::{of_readers, of_slot};
+use crate::testing::{test_sources, test_value};
+use crate::welcome::staged_welcome;
+use crate::{Entry, TakeRefusal};
+use svc_value::{Bytes, Clock, ServiceId};
+use wire_frame::{Announced, Delta, Frame};
+
+impl Node {
+    ghost use Rattle.node_core.specs.View.{Grows};
+    ghost use Rattle.node_core.specs.Taking.{IsRefused, Takes, TellsOf, failed_test};
+
+    // A reader comes, and is told the last emission.
+    fn take_subscribe(
+        &mut self,
+        sender: ServiceId,
+        epoch: Clock,
+        bytes: Bytes,
+    ) -> Result<(), (TakeRefusal, Bytes)>
+        requires frame { FrameOf (IsSubscribe epoch) bytes }
+        ensures tested { OnOk result (failed_test self.old sender (TheSubscribe epoch) ≡ None) }
+        ensures state { OnOk result (self.new.state ≡ took sender (TheSubscribe epoch) self.old.state) }
+        ensures log { OnOk result (Grows self.old self.new (took_log sender (TheSubscribe epoch) self.old.state)) }
+        ensures err { IfErr result (λ refused. (self.new ≡ self.old) × (refused.1 ≡ bytes)) }
+        ensures refused { IfErr result (λ refused. TellsOf (failed_test self.old sender (TheSubscribe epoch)) refused.0) }
+    {
+        let Ok(mail) = staged_welcome(self.alloc, &mut self.journal, sender, epoch, &self.last)
+        else {
+            return Err((TakeRefusal::OutOfMemory, bytes));
+        };
+        let above = is_below(self.roster.as_slice(), self.id, sender);
+        if let Err(error) = self.readers.subscribe(sender, above, epoch) {
+            return Err((of_readers(error), bytes));
+        }
+        self.journal.record(Entry::Took(sender, bytes), mail);
+        Ok(())
+    }
+
+    // A reader goes.
+    fn take_unsubscribe(
+        &mut self,
+        sender: ServiceId,
+        epoch: Clock,
+        bytes: Bytes,
+    ) -> Result<(), (TakeRefusal, Bytes)>
+        requires frame { FrameOf (IsUnsubscribe epoch) bytes }
+        ensures tested { OnOk result (failed_test self.old sender (TheUnsubscribe epoch) ≡ None) }
+        ensures state { OnOk result (self.new.state ≡ took sender (TheUnsubscribe epoch) self.old.state) }
+        ensures log { OnOk result (Grows self.old self.new (took_log sender (TheUnsubscribe epoch) self.old.state)) }
+        ensures err { IfErr result (λ refused. (self.new ≡ self.old) × (refused.1 ≡ bytes)) }
+        ensures refused { IfErr result (λ refused. TellsOf (failed_test self.old sender (TheUnsubscribe epoch)) refused.0) }
+    {
+        if self.journal.reserve(0).is_err() {
+            return Err((TakeRefusal::OutOfMemory, bytes));
+        }
+        if let Err(error) = self.readers.unsubscribe(sender, epoch) {
+            return Err((of_readers(error), bytes));
+        }
+        self.journal
+            .record(Entry::Took(sender, bytes), Mail::new(self.alloc));
+        Ok(())
+    }
+
+    // Keys are announced.
+    fn take_sources(
+        &mut self,
+        sender: ServiceId,
+        announced: Announced,
+        bytes: Bytes,
+    ) -> Result<(), (TakeRefusal, Bytes)>
+        requires frame { FrameOf (IsSources announced) bytes }
+        ensures tested { OnOk result (failed_test self.old sender (TheSources announced.epoch announced.keys) ≡ None) }
+        ensures state { OnOk result (self.new.state ≡ took sender (TheSources announced.epoch announced.keys) self.old.state) }
+        ensures log { OnOk result (Grows self.old self.new (took_log sender (TheSources announced.epoch announced.keys) self.old.state)) }
+        ensures err { IfErr result (λ refused. (self.new ≡ self.old) × (refused.1 ≡ bytes)) }
+        ensures refused { IfErr result (λ refused. TellsOf (failed_test self.old sender (TheSources announced.epoch announced.keys)) refused.0) }
+    {
+        let keys = announced.keys.as_slice();
+        if let Err(error) = test_sources(self.roster.as_slice(), self.id, sender, keys) {
+            return Err((error, bytes));
+        }
+        if self.journal.reserve(0).is_err() {
+            return Err((TakeRefusal::OutOfMemory, bytes));
+        }
+        if let Err(error) = announce(self.alloc, &mut self.slots, sender, announced.epoch, keys) {
+            return Err((of_slot(error), bytes));
+        }
+        self.journal
+            .record(Entry::Took(sender, bytes), Mail::new(self.alloc));
+        Ok(())
+    }
+
+    // A value comes.
+    fn take_value(
+        &mut self,
+        sender: ServiceId,
+        delta: Delta,
+        bytes: Bytes,
+    ) -> Result<(), (TakeRefusal, Bytes)>
+        requires frame { FrameOf (IsChanged delta) bytes }
+        ensures tested { OnOk result (failed_test self.old sender (TheChanged delta.epoch delta.value (pairs delta.clocks)) ≡ None) }
+        ensures state { OnOk result (self.new.state ≡ took sender (TheChanged delta.epoch delta.value (pairs delta.clocks)) self.old.state) }
+        ensures log { OnOk result (Grows self.old self.new (took_log sender (TheChanged delta.epoch delta.value (pairs delta.clocks)) self.old.state)) }
+        ensures err { IfErr result (λ refused. (self.new ≡ self.old) × (refused.1 ≡ bytes)) }
+        ensures refused { IfErr result (λ refused. TellsOf (failed_test self.old sender (TheChanged delta.epoch delta.value (pairs delta.clocks))) refused.0) }
+    {
+        if let Err(error) = test_value(self.roster.as_slice(), self.id, sender, &delta.value) {
+            return Err((error, bytes));
+        }
+        if self.journal.reserve(0).is_err() {
+            return Err((TakeRefusal::OutOfMemory, bytes));
+        }
+        if let Err(error) = put(&mut self.slots, sender, self.own, delta) {
+            return Err((of_slot(error), bytes));
+        }
+        self.journal
+            .record(Entry::Took(sender, bytes), Mail::new(self.alloc));
+        Ok(())
+    }
+
+    // Takes a frame.
+    fn take_frame(
+        &mut self,
+        sender: ServiceId,
+        frame: Frame,
+        bytes: Bytes,
+    ) -> Result<(), (TakeRefusal, Bytes)>
+        requires frame { FrameOf frame bytes }
+        ensures ok { OnOk result (Takes sender bytes self.old self.new) }
+        ensures err { IfErr result (λ refused. (self.new ≡ self.old) × (refused.1 ≡ bytes)) }
+        ensures refused { IfErr result (λ refused. IsRefused self.old sender bytes refused.0) }
+    {
+        match frame {
+            Frame::Subscribe(epoch) => self.take_subscribe(sender, epoch, bytes),
+            Frame::Unsubscribe(epoch) => self.take_unsubscribe(sender, epoch, bytes),
+            Frame::Sources(announced) => self.take_sources(sender, announced, bytes),
+            Frame::Carried(_) => Err((TakeRefusal::Old, bytes)),
+            Frame::Changed(delta) => self.take_value(sender, delta, bytes),
+        }
+    }
+
+    /// Takes a frame of `sender`, which is logged with its bytes, and does as the protocol says: a reader comes or goes, keys
+    /// are announced, or a value is put into the sender's slot. A new reader is sent the last emission, if there is one.
+    ///
+    /// It is refused, in this order: `Frame` exactly where the bytes are not just one frame; `Old` exactly where the frame is
+    /// a value of version 1; then as the first test says that fails of the message, in the order of the variants. Want of
+    /// memory may come in place of any answer. A refusal hands the bytes back and leaves the node as it was.
+    pub fn take(&mut self, sender: ServiceId, bytes: Bytes) -> Result<(), (TakeRefusal, Bytes)>
+        ensures ok { OnOk result (Takes sender bytes self.old self.new) }
+        ensures err { IfErr result (λ refused. (self.new ≡ self.old) × (refused.1 ≡ bytes)) }
+        ensures refused { IfErr result (λ refused. IsRefused self.old sender bytes refused.0) }
+    {
+        match whole_frame(self.alloc, bytes.as_slice()) {
+            Ok(frame) => self.take_frame(sender, frame, bytes),
+            Err(error) => Err((error, bytes)),
+        }
+    }
+}

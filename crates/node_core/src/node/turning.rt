@@ -1,0 +1,96 @@
+// Turns of a service.
+ghost use Rattle.std.specs.Prelude.{◌≡◌, ◌+◌, ◌<◌, ◌≤◌, true, IfOk, OnOk, OnErr, length};
+ghost use Rattle.service_machine.specs.States.{has_next, slot_at};
+ghost use Rattle.service_machine.specs.Steps.{computed, computed_log, moved, chosen, turned, turn_log};
+ghost use Rattle.stamp_match.specs.Named.{sender_at};
+ghost use Rattle.svc_graph.specs.History.{meaning_of};
+
+use super::Node;
+use crate::computing::{computation_of, emission_over, raise_by};
+use crate::slots::inputs_of;
+use crate::telling::tell_all;
+use crate::{Entry, Turned};
+use stamp_match::{Choice, choose};
+use std::mem;
+use std::sync::ledger::Ledger;
+use svc_value::{OutOfMemory, ServiceId, Steps};
+
+impl Node {
+    ghost use Rattle.node_core.specs.View.{Grows};
+    ghost use Rattle.node_core.specs.Answers.{IsAnswer, moves_of};
+
+    // Computes by the present definition, if there is one, and tells the readers.
+    fn compute(&mut self) -> Result<(), OutOfMemory>
+        ensures state { OnOk result (self.new.state ≡ computed meaning_of self.old.state self.old.state.by) }
+        ensures log { OnOk result (Grows self.old self.new (computed_log meaning_of self.old.state self.old.state.by)) }
+        ensures err { OnErr result (self.new ≡ self.old) }
+    {
+        let Some(by) = &self.by else {
+            return Ok(());
+        };
+        let inputs = inputs_of(&self.edges, self.slots.as_slice());
+        let emission = emission_over(self.alloc, self.id, self.own, by, inputs)?;
+        let computation = computation_of(self.alloc, &emission, inputs)?;
+        let mail = tell_all(self.alloc, self.readers.as_slice(), &self.last, &emission)?;
+        self.journal.reserve(mail.len())?;
+        self.journal.record(Entry::Computed(computation), mail);
+        self.due = false;
+        raise_by(&mut self.floor, &emission);
+        let _ = mem::replace(&mut self.last, Some(emission));
+        Ok(())
+    }
+
+    // The next value of the dependency at a place becomes its head.
+    fn advance<M: Ledger>(&mut self, place: usize, moves: &mut Steps<M>)
+        requires place { place < length self.old.state.edges }
+        requires next { has_next (slot_at self.old.state.slots (sender_at self.old.state.slots place)) ≡ true }
+        ensures state { self.new ≡ record self.old { state = moved (sender_at self.old.state.slots place) self.old.state } }
+        ensures moves { moves.new ≡ moves.old + 1 }
+    {
+        let _count = self.journal.entries().len();
+        let slot = &mut self.slots[place];
+        slot.advance(moves);
+        self.due = true;
+    }
+
+    /// One turn: the first case of the turn table that applies. It takes one step of `moves` exactly where it answers
+    /// `Advanced`, and one of `looks` for each comparison of a clock. After `OutOfMemory` the node is as it was.
+    pub fn turn<M: Ledger, L: Ledger>(
+        &mut self,
+        moves: &mut Steps<M>,
+        looks: &mut Steps<L>,
+    ) -> Result<Turned, OutOfMemory>
+        ensures state { OnOk result (self.new.state ≡ turned meaning_of self.old.state) }
+        ensures log { OnOk result (Grows self.old self.new (turn_log meaning_of self.old.state)) }
+        ensures answer { IfOk result (IsAnswer (chosen self.old.state)) }
+        ensures moves { moves.new ≡ moves.old + moves_of result }
+        ensures err { OnErr result (self.new ≡ self.old) }
+    {
+        let inputs = inputs_of(&self.edges, self.slots.as_slice());
+        match choose(inputs, &self.floor, self.due, looks) {
+            Choice::Advance(place) => {
+                self.advance(place, moves);
+                Ok(Turned::Advanced)
+            }
+            Choice::Ready => {
+                self.compute()?;
+                Ok(Turned::Computed)
+            }
+            Choice::Empty(place) => Ok(Turned::Empty(self.sender(place))),
+            Choice::Lags { slot, key } => Ok(Turned::Lags {
+                sender: self.sender(slot),
+                key,
+            }),
+            Choice::Still => Ok(Turned::Still),
+        }
+    }
+
+    // The sender of the slot at a place.
+    fn sender(&self, place: usize) -> ServiceId
+        requires { place < length self.now.state.slots }
+        ensures { result ≡ sender_at self.now.state.slots place }
+    {
+        let slot = &self.slots[place];
+        slot.sender()
+    }
+}

@@ -1,0 +1,154 @@
+// The frames that tell readers of an emission.
+ghost use Rattle.std.specs.Prelude.{◌≡◌, ◌≤◌, ◌<◌, ◌∷◌, [], true, length, IfOk, All};
+ghost use Rattle.propagation.specs.Logs.{stamps_of, tell, in_full};
+ghost use Rattle.propagation.specs.Stamps.{same_keys as have_same_keys};
+ghost use Rattle.service_machine.specs.Steps.{reports, sends_to};
+ghost use Rattle.stamp_clock.specs.Beside.{AreStamps};
+ghost use Rattle.wire_frame.specs.Frames.{IsAnnounced, IsDelta};
+ghost use Rattle.node_core.specs.Mail.{Says, each_told, value_letter, full_letter};
+ghost use Rattle.node_core.specs.View.{told_all};
+
+use crate::encoding::{sources_bytes, value_bytes};
+use crate::mail::Mail;
+use crate::reports::{all_places_of, changes_of, keys_of, same_keys};
+use pred_queue::Emission;
+use stamp_clock::Stamps;
+use std::alloc::Global;
+use svc_value::{Clock, OutOfMemory, ServiceId};
+use wire_frame::{Announced, Delta};
+
+// A value to each reader under its epoch. The bytes are made once, under the epoch of the last one, to which they go.
+fn mail_values(
+    alloc: Global,
+    readers: &[(ServiceId, Clock)],
+    mut delta: Delta,
+) -> Result<Mail, OutOfMemory>
+    requires epochs { All (λ reader. 1 ≤ reader.1) readers.now }
+    requires layout { IsDelta delta }
+    ensures { IfOk result (λ mail. Says mail (each_told readers.now (value_letter delta))) }
+{
+    let Some(last) = readers.len().checked_sub(1) else {
+        return Ok(Mail::new(alloc));
+    };
+    let end = readers[last];
+    delta.epoch = end.1;
+    let value = value_bytes(alloc, delta)?;
+    let mut mail = Mail::with_room(alloc, readers.len())?;
+    for i in 0..last {
+        let reader = readers[i];
+        mail.add_under(reader.0, value.as_slice(), reader.1)?;
+    }
+    mail.add(end.0, value)?;
+    Ok(mail)
+}
+
+// Keys and a value to each reader under its epoch. The bytes are made once, under the epoch of the last one, to which they go.
+fn mail_in_full(
+    alloc: Global,
+    readers: &[(ServiceId, Clock)],
+    mut announced: Announced,
+    mut delta: Delta,
+) -> Result<Mail, OutOfMemory>
+    requires epochs { All (λ reader. 1 ≤ reader.1) readers.now }
+    requires keys { IsAnnounced announced }
+    requires layout { IsDelta delta }
+    ensures { IfOk result (λ mail. Says mail (each_told readers.now (full_letter announced delta))) }
+{
+    let Some(last) = readers.len().checked_sub(1) else {
+        return Ok(Mail::new(alloc));
+    };
+    let end = readers[last];
+    announced.epoch = end.1;
+    delta.epoch = end.1;
+    let sources = sources_bytes(alloc, announced)?;
+    let value = value_bytes(alloc, delta)?;
+    let mut mail = Mail::with_room(alloc, readers.len().saturating_mul(2))?;
+    for i in 0..last {
+        let reader = readers[i];
+        mail.add_under(reader.0, sources.as_slice(), reader.1)?;
+        mail.add_under(reader.0, value.as_slice(), reader.1)?;
+    }
+    mail.add(end.0, sources)?;
+    mail.add(end.0, value)?;
+    Ok(mail)
+}
+
+// The emission in full to each reader.
+pub(crate) fn tell_in_full(
+    alloc: Global,
+    readers: &[(ServiceId, Clock)],
+    emission: &Emission,
+) -> Result<Mail, OutOfMemory>
+    requires epochs { All (λ reader. 1 ≤ reader.1) readers.now }
+    requires some { 0 < length emission.now.stamps }
+    ensures { IfOk result (λ mail. Says mail (each_told readers.now (λ epoch. in_full epoch emission.now))) }
+{
+    let stamps = &emission.stamps;
+    let announced = Announced {
+        epoch: Clock(1),
+        keys: keys_of(alloc, stamps)?,
+    };
+    let delta = Delta {
+        epoch: Clock(1),
+        value: emission.value.copy()?,
+        clocks: all_places_of(alloc, stamps)?,
+    };
+    mail_in_full(alloc, readers, announced, delta)
+}
+
+// What changed since the stamps `told`, which have the same keys, to each reader.
+fn tell_changes(
+    alloc: Global,
+    readers: &[(ServiceId, Clock)],
+    told: &Stamps,
+    emission: &Emission,
+) -> Result<Mail, OutOfMemory>
+    requires epochs { All (λ reader. 1 ≤ reader.1) readers.now }
+    requires same { have_same_keys told.now emission.now.stamps ≡ true }
+    ensures { IfOk result (λ mail. Says mail (each_told readers.now (λ epoch. tell epoch told.now emission.now))) }
+{
+    let delta = Delta {
+        epoch: Clock(1),
+        value: emission.value.copy()?,
+        clocks: changes_of(alloc, told, &emission.stamps)?,
+    };
+    mail_values(alloc, readers, delta)
+}
+
+// The frames that tell an emission to readers that were told the stamps `told` last.
+fn tell_after(
+    alloc: Global,
+    readers: &[(ServiceId, Clock)],
+    told: &Stamps,
+    emission: &Emission,
+) -> Result<Mail, OutOfMemory>
+    requires epochs { All (λ reader. 1 ≤ reader.1) readers.now }
+    requires some { 0 < length emission.now.stamps }
+    ensures { IfOk result (λ mail. Says mail (reports (told_all told.now readers.now) emission.now)) }
+{
+    if same_keys(told, &emission.stamps) {
+        tell_changes(alloc, readers, told, emission)
+    } else {
+        tell_in_full(alloc, readers, emission)
+    }
+}
+
+// The frames that tell an emission to readers that were told the last one.
+pub(crate) fn tell_all(
+    alloc: Global,
+    readers: &[(ServiceId, Clock)],
+    last: &Option<Emission>,
+    emission: &Emission,
+) -> Result<Mail, OutOfMemory>
+    requires epochs { All (λ reader. 1 ≤ reader.1) readers.now }
+    requires some { 0 < length emission.now.stamps }
+    ensures { IfOk result (λ mail. Says mail (reports (told_all (stamps_of last.now) readers.now) emission.now)) }
+{
+    if readers.is_empty() {
+        return Ok(Mail::new(alloc));
+    }
+    match last {
+        None => tell_in_full(alloc, readers, emission),
+        Some(told) => tell_after(alloc, readers, &told.stamps, emission),
+    }
+}
