@@ -1,12 +1,12 @@
 #!/bin/sh
-# Settles documents of growing size with `qprop step`, and prints how many bytes of each it does in a second. It is no test.
+# Reads documents of growing size with `qprop check`, `central` and `step`, and prints how many bytes of each they do in a second. It is no test.
 # Each document has 62 inputs, a sum of two of them, and legs of 1,000 new values.
 cd "$(dirname "$0")/.." || exit 1
 (cd crates/qprop && rt run -- step </dev/null >/dev/null) || exit 1
 program=crates/qprop/out/qprop
 document=$(mktemp) || exit 1
 trap 'rm -f "$document"' EXIT
-echo "bytes seconds bytes_per_second"
+echo "word bytes seconds bytes_per_second"
 for kib in 64 128 256 512 1023; do
     awk -v most=$((kib * 1024)) 'BEGIN {
         for (i = 0; i < 62; i++) { line = sprintf("input price%d : int = %d\n", i, i); bytes += length(line); printf "%s", line }
@@ -19,8 +19,10 @@ for kib in 64 128 256 512 1023; do
         }
     }' > "$document"
     bytes=$(wc -c < "$document")
-    start=$(date +%s%N)
-    "$program" step < "$document" > /dev/null || exit 1
-    end=$(date +%s%N)
-    awk -v bytes="$bytes" -v nanos=$((end - start)) 'BEGIN { printf "%d %.3f %d\n", bytes, nanos / 1e9, bytes * 1e9 / nanos }'
+    for word in check central step; do
+        start=$(date +%s%N)
+        "$program" "$word" < "$document" > /dev/null || exit 1
+        end=$(date +%s%N)
+        awk -v word="$word" -v bytes="$bytes" -v nanos=$((end - start)) 'BEGIN { printf "%s %d %.3f %d\n", word, bytes, nanos / 1e9, bytes * 1e9 / nanos }'
+    done
 done
