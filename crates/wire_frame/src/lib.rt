@@ -32,4 +32,4 @@ pub use place_clock::{PlaceClock, PlaceClocks};
 pub use read::read_frame;
 pub use reason::FrameReason;
 pub use stream_laws::{splits_always, splits_once, stream_comes_in_pieces};
-pub use write::write_frame;
+pub use write::{write_frame, write_sources, write_value};
