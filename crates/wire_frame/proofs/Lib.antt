@@ -6,6 +6,7 @@ pub mod Digits
 pub mod Framing
 pub mod Fronts
 pub mod Items
+pub mod Lending
 pub mod Longest
 pub mod Messages
 pub mod Parts

@@ -3,6 +3,8 @@ pub mod Cut
 pub mod Fields
 pub mod Frames
 pub mod Framing
+pub mod Lent
+pub mod LentFrames
 pub mod Message
 pub mod Parts
 pub mod Runs

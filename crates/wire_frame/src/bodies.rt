@@ -2,11 +2,12 @@
 ghost use Rattle.std.specs.Prelude.{◌≡◌, ◌≤◌, length, IfOk, IfErr};
 ghost use Rattle.wire_frame.specs.Bodies.{announced_body, cargo_body, delta_body, of_announced, of_cargo, of_delta};
 ghost use Rattle.wire_frame.specs.Fields.{frame_reason};
+ghost use Rattle.wire_frame.specs.LentFrames.{delta_in};
 ghost use Rattle.wire_frame.specs.Parts.{Stands, Fails, value_part};
 
 use crate::lists::{read_clocks, read_keys, read_places};
 use crate::numbers::read_clock;
-use crate::{Announced, Cargo, Delta, FrameError, FrameReason};
+use crate::{Announced, Cargo, DeltaIn, FrameError, FrameReason};
 use std::alloc::Global;
 use svc_value::{Value, ValueError, ValueReason, take_value};
 
@@ -40,17 +41,17 @@ pub(crate) fn read_cargo(alloc: Global, bytes: &[u8]) -> Result<(Cargo, usize), 
     ))
 }
 
-/// An epoch, a value and places with their clocks, and where they end; `Bad` where there are none.
-pub(crate) fn read_delta(alloc: Global, bytes: &[u8]) -> Result<(Delta, usize), FrameError>
+/// An epoch, a value and places with their clocks, which are lent, and where they end; `Bad` where there are none.
+pub(crate) fn read_delta(alloc: Global, bytes: &[u8]) -> Result<(DeltaIn<'_>, usize), FrameError>
     requires { 1 ≤ length bytes.now }
-    ensures delta { IfOk result (λ read. Stands delta_body (of_delta read.0) bytes.now 1 read.1) }
+    ensures delta { IfOk result (λ read. Stands delta_body (of_delta (delta_in read.0)) bytes.now 1 read.1) }
     ensures bad { IfErr result (λ e. Fails delta_body bytes.now 1 e) }
 {
     let epoch = read_clock(bytes, 1, FrameReason::Epoch)?;
     let (value, at) = read_value(alloc, bytes, 5)?;
-    let (clocks, end) = read_places(alloc, bytes, at)?;
+    let (clocks, end) = read_places(bytes, at)?;
     Ok((
-        Delta {
+        DeltaIn {
             epoch,
             value,
             clocks,

@@ -5,7 +5,7 @@ ghost use Rattle.wire_frame.specs.Parts.{Stands, Fails};
 ghost use Rattle.wire_frame.specs.Runs.{item_part, run_part, key_items, clock_items, place_items};
 
 use crate::numbers::{read_byte, read_clock, read_key};
-use crate::{FrameError, FrameReason, PlaceClock, PlaceClocks};
+use crate::{FrameError, FrameReason, PlaceClock, PlacesIn};
 use std::alloc::Global;
 use svc_value::{Clocks, Ids, ServiceId};
 
@@ -38,18 +38,15 @@ pub(crate) fn read_clocks(
     Ok((clocks, at + 1 + 4 * usize::from(count)))
 }
 
-/// The places with their clocks from `at` on behind their number, and where they end; `Bad` where there are none.
-pub(crate) fn read_places(
-    alloc: Global,
-    bytes: &[u8],
-    at: usize,
-) -> Result<(PlaceClocks, usize), FrameError>
+/// The places with their clocks from `at` on behind their number, lent, and where they end; `Bad` where there are none. No
+/// memory is taken.
+pub(crate) fn read_places(bytes: &[u8], at: usize) -> Result<(PlacesIn<'_>, usize), FrameError>
     requires { at ≤ length bytes.now }
     ensures places { IfOk result (λ read. Stands (counted place_items 0) (length read.0, read.0) bytes.now at read.1) }
     ensures bad { IfErr result (λ e. Fails (counted place_items 0) bytes.now at e) }
 {
     let count = read_byte(bytes, at, FrameReason::Count, 0, MOST)?;
-    let clocks = places_of(alloc, bytes, at + 1, count)?;
+    let clocks = places_of(bytes, at + 1, count)?;
     Ok((clocks, at + 1 + 5 * usize::from(count)))
 }
 
@@ -90,24 +87,22 @@ fn clocks_of(alloc: Global, bytes: &[u8], at: usize, count: u8) -> Result<Clocks
     Ok(Clocks::from_vec(clocks))
 }
 
-// The `count` places with their clocks from `at` on, strictly rising.
-fn places_of(alloc: Global, bytes: &[u8], at: usize, count: u8) -> Result<PlaceClocks, FrameError>
+// The `count` places with their clocks from `at` on, strictly rising, lent.
+fn places_of(bytes: &[u8], at: usize, count: u8) -> Result<PlacesIn<'_>, FrameError>
     requires there { at ≤ length bytes.now }
     requires most { count ≤ 64 }
     ensures places { IfOk result (λ clocks. Stands (run_part place_items 0 count) clocks bytes.now at (at + 5 * count)) }
     ensures bad { IfErr result (λ e. Fails (run_part place_items 0 count) bytes.now at e) }
 {
-    let mut clocks = Vec::with_capacity(alloc, usize::from(count))?;
     let mut least = 0;
     let mut to = at;
     for i in 0..count {
         let left = count - 1 - i;
         let named = read_place(bytes, to, least, left)?;
         least = named.place + 1;
-        clocks.push_reserved(named);
         to += 5;
     }
-    Ok(PlaceClocks::from_vec(clocks))
+    Ok(PlacesIn::new(&bytes[at..to]))
 }
 
 // The place at `at`, from `least` on and with room for `left` places above it, and its clock.

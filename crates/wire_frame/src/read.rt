@@ -1,11 +1,14 @@
 // A frame off the front of some bytes.
-ghost use Rattle.std.specs.Prelude.{◌≡◌, ◌⊎◌, ◌<◌, ◌≤◌, ◌++◌, ℕ, List, Ok, Err, length, slice_index, IfOk, IfErr};
+ghost use Rattle.std.specs.Prelude.{◌≡◌, ◌⊎◌, ◌<◌, ◌≤◌, ◌++◌, ℕ, List, Ok, Err, length, slice_index, IfOk, IfErr, OnErr};
+ghost use Rattle.wire_frame.specs.Frames.{frame_bytes};
+ghost use Rattle.wire_frame.specs.LentFrames.{frame_in};
 ghost use Rattle.wire_frame.specs.Taking.{IsAtFront, IsRefused};
 
 use crate::bodies::{read_announced, read_cargo, read_delta};
 use crate::numbers::read_clock;
-use crate::{Frame, FrameError, FrameReason};
+use crate::{Delta, Frame, FrameError, FrameIn, FrameReason};
 use std::alloc::Global;
+use svc_value::OutOfMemory;
 
 /// The frame that `bytes` begin with, and how many bytes it has; its lists and its text are put into memory of `alloc`.
 /// `Bad` exactly where they begin with none: `place` is the length of the longest front that begins a frame, and `reason`
@@ -17,26 +20,40 @@ pub fn read_frame(alloc: Global, bytes: &[u8]) -> Result<(Frame, usize), FrameEr
     ensures memory { result ≡ Err FrameError.OutOfMemory →
         (3 ≤ slice_index bytes.now 0) × (slice_index bytes.now 0 ≤ 5) }
 {
+    let (frame, len) = read_lent(alloc, bytes)?;
+    Ok((owned(alloc, frame)?, len))
+}
+
+/// The frame that `bytes` begin with, and how many bytes it has, as `read_frame` answers it; but the bytes lend the places
+/// of a value of version 2, for which no memory is taken. Its text, and the lists of keys and of clocks of the other kinds,
+/// are put into memory of `alloc`. `Bad` exactly where `read_frame` refuses, with the same place and reason. `OutOfMemory`
+/// for want of memory, which only frames with a value or a list take.
+pub fn read_lent(alloc: Global, bytes: &[u8]) -> Result<(FrameIn<'_>, usize), FrameError>
+    ensures ok { IfOk result (λ read. IsAtFront bytes.now (frame_in read.0) read.1) }
+    ensures bad { IfErr result (IsRefused bytes.now) }
+    ensures memory { result ≡ Err FrameError.OutOfMemory →
+        (3 ≤ slice_index bytes.now 0) × (slice_index bytes.now 0 ≤ 5) }
+{
     match bytes {
         [1, ..] => Ok((
-            Frame::Subscribe(read_clock(bytes, 1, FrameReason::Epoch)?),
+            FrameIn::Subscribe(read_clock(bytes, 1, FrameReason::Epoch)?),
             5,
         )),
         [2, ..] => Ok((
-            Frame::Unsubscribe(read_clock(bytes, 1, FrameReason::Epoch)?),
+            FrameIn::Unsubscribe(read_clock(bytes, 1, FrameReason::Epoch)?),
             5,
         )),
         [3, ..] => {
             let (announced, len) = read_announced(alloc, bytes)?;
-            Ok((Frame::Sources(announced), len))
+            Ok((FrameIn::Sources(announced), len))
         }
         [4, ..] => {
             let (cargo, len) = read_cargo(alloc, bytes)?;
-            Ok((Frame::Carried(cargo), len))
+            Ok((FrameIn::Carried(cargo), len))
         }
         [5, ..] => {
             let (delta, len) = read_delta(alloc, bytes)?;
-            Ok((Frame::Changed(delta), len))
+            Ok((FrameIn::Changed(delta), len))
         }
         [_, ..] => Err(FrameError::Bad {
             place: 0,
@@ -46,5 +63,23 @@ pub fn read_frame(alloc: Global, bytes: &[u8]) -> Result<(Frame, usize), FrameEr
             place: 0,
             reason: FrameReason::Short,
         }),
+    }
+}
+
+// The frame with lists of its own; only a value of version 2 takes memory.
+fn owned(alloc: Global, frame: FrameIn<'_>) -> Result<Frame, OutOfMemory>
+    ensures ok { IfOk result (λ owned. owned ≡ frame_in frame.entry) }
+    ensures memory { OnErr result (slice_index (frame_bytes (frame_in frame.entry)) 0 ≡ 5) }
+{
+    match frame {
+        FrameIn::Subscribe(epoch) => Ok(Frame::Subscribe(epoch)),
+        FrameIn::Unsubscribe(epoch) => Ok(Frame::Unsubscribe(epoch)),
+        FrameIn::Sources(announced) => Ok(Frame::Sources(announced)),
+        FrameIn::Carried(cargo) => Ok(Frame::Carried(cargo)),
+        FrameIn::Changed(delta) => Ok(Frame::Changed(Delta {
+            epoch: delta.epoch,
+            clocks: delta.clocks.to_list(alloc)?,
+            value: delta.value,
+        })),
     }
 }

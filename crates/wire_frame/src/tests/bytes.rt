@@ -1,4 +1,7 @@
-use crate::{Frame, FrameError, FrameReason, PlaceClock, read_frame, write_frame};
+use crate::{
+    Frame, FrameError, FrameIn, FrameReason, PlaceClock, read_frame, read_lent, write_frame,
+    write_sources, write_value,
+};
 use std::alloc::Global;
 use std::test::Fail;
 use svc_value::{Clock, Fault, ServiceId, Value, ValueReason};
@@ -163,6 +166,88 @@ fn frames_are_written_as_they_are_read(rt: HostRuntime) -> Result<(), Fail> {
         write_frame(&frame, &mut out)?;
         assert_eq!(rt; Some(out.as_slice()), bytes.get(..len), "{bytes:?}");
     }
+    Ok(())
+}
+
+// What is refused of the bytes where their places are lent, or how many bytes the frame has.
+fn lent_length(alloc: Global, bytes: &[u8]) -> Result<usize, FrameError> {
+    let (_, len) = read_lent(alloc, bytes)?;
+    Ok(len)
+}
+
+#[test]
+fn bad_bytes_lend_nothing(rt: HostRuntime) -> Result<(), Fail> {
+    for (bytes, place, reason) in BAD {
+        assert_eq!(rt;
+            lent_length(rt.alloc(), bytes),
+            Err(FrameError::Bad { place, reason }),
+            "{bytes:?}"
+        );
+    }
+    Ok(())
+}
+
+#[test]
+fn bent_frames_lend_as_they_are_read(rt: HostRuntime) -> Result<(), Fail> {
+    for (frame, at, byte, want) in BENT {
+        let mut bytes = frame.to_vec(rt.alloc())?;
+        assert!(rt; at < bytes.len());
+        bytes[at] = byte;
+        assert_eq!(rt;
+            lent_length(rt.alloc(), bytes.as_slice()),
+            want.map_err(|(place, reason)| FrameError::Bad { place, reason }),
+            "byte {at} as {byte} in {frame:?}"
+        );
+    }
+    Ok(())
+}
+
+#[test]
+fn lent_frames_have_their_parts(rt: HostRuntime) -> Result<(), Fail> {
+    let bytes = [5, 0, 0, 0, 9, 3, 1, 2, 0, 0, 0, 0, 1, 63, 1, 2, 3, 4, 0xff];
+    let (frame, len) = read_lent(rt.alloc(), &bytes)?;
+    assert_eq!(rt; len, 18);
+    let FrameIn::Changed(delta) = frame else {
+        return Err("no value".into());
+    };
+    let epoch = delta.epoch;
+    assert_eq!(rt; epoch.0, 9);
+    assert!(rt; matches!(delta.value, Value::Bad(Fault::Overflow)));
+    let clocks = delta.clocks;
+    assert_eq!(rt; clocks.len(), 2);
+    let mut at = 0;
+    for named in clocks.iter() {
+        assert!(rt; at < clocks.len());
+        assert_eq!(rt; named, clocks.at(at));
+        at += 1;
+    }
+    assert_eq!(rt; at, 2);
+    let list = clocks.to_list(rt.alloc())?;
+    let [first, second] = list.as_slice() else {
+        return Err("not two places".into());
+    };
+    let (first, second): (PlaceClock, PlaceClock) = (*first, *second);
+    let (one, two) = (first.clock, second.clock);
+    assert_eq!(rt; (first.place, one.0), (0, 1));
+    assert_eq!(rt; (second.place, two.0), (63, 0x0102_0304));
+    Ok(())
+}
+
+#[test]
+fn parts_are_written_as_their_frame(rt: HostRuntime) -> Result<(), Fail> {
+    let mut out = Vec::new(rt.alloc());
+    let keys = [ServiceId(3), ServiceId(256)];
+    write_sources(Clock(1), &keys, &mut out)?;
+    assert_eq!(rt; out.as_slice(), [3, 0, 0, 0, 1, 2, 0, 3, 1, 0].as_slice());
+    let clocks = [PlaceClock {
+        place: 0,
+        clock: Clock(1),
+    }];
+    write_value(Clock(1), &Value::Bad(Fault::Overflow), &clocks, &mut out)?;
+    assert_eq!(rt;
+        out.get(10..),
+        Some([5, 0, 0, 0, 1, 3, 1, 1, 0, 0, 0, 0, 1].as_slice())
+    );
     Ok(())
 }
 

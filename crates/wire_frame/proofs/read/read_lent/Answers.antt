@@ -5,10 +5,11 @@ use Rattle.wire_frame.specs.declared.errors.FrameError.TheVariants as error
 use Rattle.wire_frame.specs.declared.frame.Frame.TheVariants.{Subscribe, Unsubscribe}
 use Rattle.wire_frame.specs.declared.reason.FrameReason.TheVariants.{Short, Kind, Epoch}
 use Rattle.wire_frame.specs.Bodies.{announced_body, cargo_body, delta_body, of_announced, of_cargo, of_delta}
+use Rattle.wire_frame.specs.LentFrames.{delta_in}
 use Rattle.wire_frame.specs.Parts.{clock_part}
 use Rattle.wire_frame.proofs.Told.{front_of, refused_of}
 use Rattle.wire_frame.proofs.Whole.{kind_fails, kind_stands_whole, nothing_fails, kind_wrong, subscribe_kind, unsubscribe_kind, sources_kind, carried_kind, changed_kind, sources_of, carried_of, changed_of}
-use Rattle.wire_frame.proofs.read.read_frame.Goals as goal
+use Rattle.wire_frame.proofs.read.read_lent.Goals as goal
 
 pub returns-in_err-read_clock-in-1-clause-bad : goal.returns-in_err-read_clock-in-1-clause-bad
 returns-in_err-read_clock-in-1-clause-bad c =
@@ -67,7 +68,7 @@ returns-in_ok-cargo-in-4-clause-ok c =
 pub returns-in_ok-delta-in-5-clause-ok : goal.returns-in_ok-delta-in-5-clause-ok
 returns-in_ok-delta-in-5-clause-ok c =
     let bytes = c.args.bytes.now in
-    let x = of_delta c.in_ok-delta-in-5.delta in
+    let x = of_delta (delta_in c.in_ok-delta-in-5.delta) in
     let first : get_or bytes 0 0 ≡ 5 = omega arith in
     front_of bytes (changed_of x) c.in_ok-delta-in-5.len (kind_stands_whole 5 delta_body changed_of bytes c.in_ok-delta-in-5.len x changed_kind (omega arith) first c.in_ok-delta-in-5.ensures.delta)
 

@@ -1,0 +1,29 @@
+// The messages between services, as they stand in their bytes.
+use crate::{Announced, Cargo, PlacesIn};
+use svc_value::{Clock, Value};
+
+/// A frame whose places are lent by the bytes that it was read from. Its cases are those of `Frame`.
+#[derive(Drop)]
+pub enum FrameIn<'a> {
+    /// The sender reads from now on, under this epoch.
+    Subscribe(Clock),
+    /// The sender no longer reads under this epoch.
+    Unsubscribe(Clock),
+    /// The keys of the stamps of the values to come.
+    Sources(Announced),
+    /// A value of version 1.
+    Carried(Cargo),
+    /// A value of version 2.
+    Changed(DeltaIn<'a>),
+}
+
+/// A value with the clocks of some of its keys, which its bytes lend.
+#[derive(Drop)]
+pub struct DeltaIn<'a> {
+    /// The epoch, at least 1.
+    pub epoch: Clock,
+    /// The value.
+    pub value: Value,
+    /// Places below 64, strictly rising, each with a clock of at least 1.
+    pub clocks: PlacesIn<'a>,
+}
