@@ -54,7 +54,7 @@ impl KeySet {
     }
 
     /// Whether `id` is a key.
-    pub(crate) fn contains(self, id: ServiceId) -> bool
+    pub fn contains(self, id: ServiceId) -> bool
         ensures { IsTrue result ↔ Has self id }
     {
         id.0 < 64 && (self.word >> id.0) & 1 == 1

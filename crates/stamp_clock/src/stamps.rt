@@ -31,6 +31,7 @@ impl Model for Stamps {
 
 impl Stamps {
     ghost use Rattle.stamp_clock.specs.Beside.{AreStamps, clocks};
+    ghost use Rattle.stamp_clock.specs.Places.{AreKeys};
 
     /// The stamps of one service: `id`, below 64, at `clock`, at least 1. `OutOfMemory` where `alloc` has none.
     pub fn one(alloc: Global, id: ServiceId, clock: Clock) -> Result<Stamps, OutOfMemory>
@@ -38,7 +39,20 @@ impl Stamps {
         requires positive { 0 < clock }
         ensures { IfOk result (λ stamps. stamps ≡ (id, clock) ∷ []) }
     {
-        Stamps::of(alloc, &[id], &[clock])
+        Stamps::one_in(Clocks::new(alloc), id, clock)
+    }
+
+    /// The stamps of one service: `id`, below 64, at `clock`, at least 1. They are made in the memory of `memory`, whose
+    /// clocks are forgotten. `OutOfMemory` where it holds no clock and there is no more; the memory is then given back.
+    pub fn one_in(memory: Clocks, id: ServiceId, clock: Clock) -> Result<Stamps, OutOfMemory>
+        requires below { id < 64 }
+        requires positive { 0 < clock }
+        ensures { IfOk result (λ stamps. stamps ≡ (id, clock) ∷ []) }
+    {
+        Ok(Stamps {
+            keys: KeySet::of(&[id]),
+            clocks: refilled(memory, &[clock])?,
+        })
     }
 
     /// The stamps of these keys, which rise strictly and are below 64, each with the clock at its place, which is at least 1.
@@ -52,7 +66,7 @@ impl Stamps {
     {
         Ok(Stamps {
             keys: KeySet::of(keys),
-            clocks: Vec::from_slice(alloc, clocks)?,
+            clocks: refilled(Clocks::new(alloc), clocks)?,
         })
     }
 
@@ -67,6 +81,21 @@ impl Stamps {
             keys,
             clocks: clocks.into_vec(),
         }
+    }
+
+    /// The list of the clocks, by rising key, whose memory may be used again.
+    pub fn into_clocks(self) -> Clocks
+        ensures { result ≡ clocks self }
+    {
+        Clocks::from_vec(self.clocks)
+    }
+
+    /// The keys.
+    pub fn keys(&self) -> KeySet
+        ensures keys { result ≡ keys self.now }
+        ensures are_keys { AreKeys result }
+    {
+        self.keys
     }
 
     /// The number of keys.
@@ -139,8 +168,16 @@ impl Stamps {
     pub fn join(&self, other: &Stamps) -> Result<Stamps, OutOfMemory>
         ensures { IfOk result (λ both. both ≡ raise self.now other.now) }
     {
+        self.join_in(other, Clocks::new(*self.clocks.allocator()))
+    }
+
+    /// The union of the two, as of `join`, made in the memory of `memory`, whose clocks are forgotten. `OutOfMemory` where it
+    /// holds too few clocks and there is no more; the memory is then given back.
+    pub fn join_in(&self, other: &Stamps, memory: Clocks) -> Result<Stamps, OutOfMemory>
+        ensures { IfOk result (λ both. both ≡ raise self.now other.now) }
+    {
         let keys = self.keys.union(other.keys);
-        let clocks = self.greater_clocks(other, keys)?;
+        let clocks = self.greater_clocks(other, keys, memory)?;
         Ok(Stamps { keys, clocks })
     }
 
@@ -148,9 +185,17 @@ impl Stamps {
     pub fn copy(&self) -> Result<Stamps, OutOfMemory>
         ensures { IfOk result (λ stamps. stamps ≡ self.now) }
     {
+        self.copy_in(Clocks::new(*self.clocks.allocator()))
+    }
+
+    /// Stamps with the same keys and clocks, made in the memory of `memory`, whose clocks are forgotten. `OutOfMemory` where
+    /// it holds too few clocks and there is no more; the memory is then given back.
+    pub fn copy_in(&self, memory: Clocks) -> Result<Stamps, OutOfMemory>
+        ensures { IfOk result (λ stamps. stamps ≡ self.now) }
+    {
         Ok(Stamps {
             keys: self.keys,
-            clocks: self.clocks.clone()?,
+            clocks: refilled(memory, self.clocks.as_slice())?,
         })
     }
 
@@ -163,10 +208,17 @@ impl Stamps {
     }
 
     // For each of the keys the greater clock of the two, where a missing one counts as 0.
-    fn greater_clocks(&self, other: &Stamps, keys: KeySet) -> Result<Vec<Clock>, OutOfMemory>
+    fn greater_clocks(
+        &self,
+        other: &Stamps,
+        keys: KeySet,
+        memory: Clocks,
+    ) -> Result<Vec<Clock>, OutOfMemory>
         ensures { IfOk result (λ clocks. clocks.items ≡ map (λ q. max (clock_of self.now q) (clock_of other.now q)) keys) }
     {
-        let mut clocks = Vec::with_capacity(*self.clocks.allocator(), keys.len())?;
+        let mut clocks = memory.into_vec();
+        clocks.clear();
+        clocks.reserve(keys.len())?;
         for key in keys {
             let here = self.get(key).unwrap_or(Clock(0));
             let there = other.get(key).unwrap_or(Clock(0));
@@ -174,4 +226,14 @@ impl Stamps {
         }
         Ok(clocks)
     }
+}
+
+// The clocks, in the memory of a list whose own are forgotten.
+fn refilled(memory: Clocks, clocks: &[Clock]) -> Result<Vec<Clock>, OutOfMemory>
+    ensures { IfOk result (λ list. list.items ≡ clocks.now) }
+{
+    let mut list = memory.into_vec();
+    list.clear();
+    list.extend_from_slice(clocks)?;
+    Ok(list)
 }

@@ -3,7 +3,7 @@ use crate::{Floor, Stamps};
 use std::alloc::{AllocError, Global};
 use std::process::Abort;
 use std::test::Fail;
-use svc_value::{Clock, OutOfMemory, ServiceId};
+use svc_value::{Clock, Clocks, OutOfMemory, ServiceId};
 
 type Pair = (u16, u32);
 
@@ -211,4 +211,36 @@ fn floor_of_stamps(rt: HostRuntime) -> Result<(), Fail> {
     assert_eq!(rt; floor.get(ServiceId(2)), None);
     assert_eq!(rt; floor.get(ServiceId(64)), None);
     Ok(())
+}
+
+#[test]
+fn memory_is_used_again(rt: HostRuntime) -> Result<(), Fail> {
+    let alloc = rt.alloc();
+    let long = dense(alloc, &[(0, 5), (1, 4), (63, 9)])?;
+    let short = dense(alloc, &[(1, 7), (2, 1)])?;
+    assert!(rt; long.keys().contains(ServiceId(63)));
+    assert!(rt; !short.keys().contains(ServiceId(63)));
+
+    let one = Stamps::one_in(long.into_clocks(), ServiceId(4), Clock(6))?;
+    assert_eq!(rt; pairs_of(alloc, &one)?.as_slice(), [(4, 6)].as_slice());
+    let union = short.join_in(&one, long_list(alloc)?)?;
+    assert_eq!(rt;
+        pairs_of(alloc, &union)?.as_slice(),
+        [(1, 7), (2, 1), (4, 6)].as_slice()
+    );
+    let copy = short.copy_in(union.into_clocks())?;
+    assert_eq!(rt;
+        pairs_of(alloc, &copy)?.as_slice(),
+        [(1, 7), (2, 1)].as_slice()
+    );
+    assert_eq!(rt;
+        copy.into_clocks().as_slice(),
+        [Clock(7), Clock(1)].as_slice()
+    );
+    Ok(())
+}
+
+// Clocks that none of the stamps has.
+fn long_list(alloc: Global) -> Result<Clocks, OutOfMemory> {
+    Clocks::from_slice(alloc, &[Clock(8); 5])
 }

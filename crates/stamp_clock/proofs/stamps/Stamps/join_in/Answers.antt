@@ -1,5 +1,5 @@
 use Rattle.stamp_clock.proofs.JoinLemmas.{union-beside, union-raise, is-either, rising-is}
-use Rattle.stamp_clock.proofs.stamps.Stamps.join.Goals as goal
+use Rattle.stamp_clock.proofs.stamps.Stamps.join_in.Goals as goal
 
 pub invariant_of-result : goal.invariant_of-result
 invariant_of-result c =
