@@ -1,9 +1,9 @@
 -- Clocks that a value names by their places, in a list beside the keys.
-use Rattle.std.proofs.Common.{◌≡◌, ℕ, zero, suc, ◌+◌, ◌<◌, ◌≤◌, ltb, List, [], ◌∷◌, length, set, replicate, All, Option, Some, None, unwrap_or, option_map, refl, sym, ap, ap₂, subst, ◌∙◌, inl, inr, arith, ◌==◌, eq-eqb, eqb-true, ne_eqb, true, false, length-set}
-use Rattle.std.proofs.lemmas.Bool.{cond-true, cond-false, cases_Bool, ltb-true}
+use Rattle.std.proofs.Common.{◌≡◌, ℕ, zero, suc, ◌+◌, ◌<◌, ◌≤◌, ltb, List, [], ◌∷◌, length, set, replicate, All, Option, Some, None, unwrap_or, option_map, refl, sym, ap, ap₂, subst, ◌∙◌, inl, inr, arith, ◌==◌, eq-eqb, eqb-true, ne_eqb, true, false, length-set, drop, slice_get}
+use Rattle.std.proofs.lemmas.Bool.{cond-true, cond-false, cases_Bool, ltb-true, lt-ltb, le-ltb}
 use Rattle.std.proofs.lemmas.List.Elements.{All-nil, All-cons, All-head, All-tail}
-use Rattle.std.proofs.lemmas.Option.{same_Some}
-use Rattle.std.proofs.lemmas.List.{length-replicate}
+use Rattle.std.proofs.lemmas.Option.{same_Some, get_or_from_slice_get}
+use Rattle.std.proofs.lemmas.List.{length-replicate, drop_more}
 use Rattle.std.specs.List.{zip}
 use Rattle.propagation.specs.Words.{Has, is_among}
 use Rattle.propagation.specs.Stamps.{Stamps, named, written, IsRising, RisePairs, keys}
@@ -180,6 +180,27 @@ places-within epoch n ks carried clocks is ok =
     has-pairs [] x h = absurd h
     has-pairs (y ∷ xs) x (inl e) = inl (ap (λ (z : PlaceClock). (z.place, z.clock)) e)
     has-pairs (y ∷ xs) x (inr h) = inr (has-pairs xs x h)
+
+-- ---- one place after the other
+
+-- the next place is the first of the rest
+rest-next : (xs : List PlaceClock) (i : ℕ) (x : PlaceClock) → i < length xs → slice_get xs i ≡ Some x → drop i xs ≡ x ∷ drop (i + 1) xs
+rest-next xs i x lt at = drop_more xs i x lt ∙ ap (λ (y : PlaceClock). y ∷ drop (i + 1) xs) (get_or_from_slice_get xs i x x at)
+
+module _ (n : ℕ) (xs : List PlaceClock) (i : ℕ) (x : PlaceClock) (lt : i < length xs) (at : slice_get xs i ≡ Some x) where
+  pub bad-here : bad_place n (pairs_of (drop i xs)) ≡ bad_place n (pairs_of xs) → n ≤ x.place → Some x.place ≡ bad_place n (pairs_of xs)
+  bad-here before le =
+      sym (cond-false (ltb x.place n) (bad_place n (pairs_of (drop (i + 1) xs))) (Some x.place) (le-ltb x.place n le))
+      ∙ sym (ap (λ (ys : List PlaceClock). bad_place n (pairs_of ys)) (rest-next xs i x lt at)) ∙ before
+
+  pub bad-next : bad_place n (pairs_of (drop i xs)) ≡ bad_place n (pairs_of xs) → x.place < n → bad_place n (pairs_of (drop (i + 1) xs)) ≡ bad_place n (pairs_of xs)
+  bad-next before below =
+      sym (cond-true (ltb x.place n) (bad_place n (pairs_of (drop (i + 1) xs))) (Some x.place) (lt-ltb x.place n below))
+      ∙ sym (ap (λ (ys : List PlaceClock). bad_place n (pairs_of ys)) (rest-next xs i x lt at)) ∙ before
+
+pub rewritten-next : (xs : List PlaceClock) (i : ℕ) (x : PlaceClock) (cs start : List ℕ) → i < length xs → slice_get xs i ≡ Some x →
+    rewritten (pairs_of (drop i xs)) cs ≡ rewritten (pairs_of xs) start → rewritten (pairs_of (drop (i + 1) xs)) (set cs x.place x.clock) ≡ rewritten (pairs_of xs) start
+rewritten-next xs i x cs start lt at before = sym (ap (λ (ys : List PlaceClock). rewritten (pairs_of ys) cs) (rest-next xs i x lt at)) ∙ before
 
 -- ---- the same of what a slot was told
 

@@ -1,16 +1,16 @@
 // The keys that a sender announced last, and the clocks that it carried for them.
-ghost use Rattle.std.specs.Prelude.{◌≡◌, ◌<◌, All, None, Some, length, replicate, unwrap_or, OnOk, OnErr, IfOk, IfErr, IsSome, IsTrue};
+ghost use Rattle.std.specs.Prelude.{◌≡◌, ◌<◌, ◌≤◌, ◌+◌, [], All, None, Some, length, replicate, unwrap_or, vec_len, vec_capacity, OnOk, OnErr, IfOk, IfErr, IsSome, IsTrue};
 ghost use Rattle.propagation.specs.Stamps.{Rise, RisePairs};
 ghost use Rattle.service_machine.specs.Refusing.{refuse_put, bad_place};
 ghost use Rattle.wire_frame.specs.Frames.{pairs};
 ghost use Rattle.pred_queue.specs.Told.{rewritten, items_in};
 
 use crate::SlotError;
+use crate::lent::Lent;
 use stamp_clock::{KeySet, Stamps};
 use std::alloc::Global;
 use std::marker::Model;
 use svc_value::{Clock, Clocks, OutOfMemory, ServiceId};
-use wire_frame::PlaceClock;
 
 /// The epoch and the keys announced last, with the clocks that were carried for them last, or none.
 #[derive(Debug, Drop)]
@@ -59,13 +59,20 @@ impl Announced {
         self.epoch
     }
 
+    // The number of keys.
+    pub(crate) fn len(&self) -> usize
+        ensures { result ≡ length self.now.keys }
+    {
+        self.keys.len()
+    }
+
     // Why the clocks of a value under an epoch are refused, if they are.
-    pub(crate) fn check(&self, epoch: Clock, named: &[PlaceClock]) -> Result<(), SlotError>
-        ensures exactly { refusal_in result ≡ refuse_put (Some (self.now.epoch, self.now.keys)) self.now.carried epoch (pairs named.now) }
+    pub(crate) fn check<L: Lent>(&self, epoch: Clock, named: &L) -> Result<(), SlotError>
+        ensures exactly { refusal_in result ≡ refuse_put (Some (self.now.epoch, self.now.keys)) self.now.carried epoch (pairs (L.named named.now)) }
         ensures memory { IfErr result (λ error. IsSome (refusal_of error)) }
     {
         let announced = self.keys.len();
-        let carried = named.len();
+        let carried = named.count();
         if self.epoch != epoch {
             return Err(SlotError::NoSources);
         }
@@ -78,29 +85,34 @@ impl Announced {
         Ok(())
     }
 
-    // The stamps of a value that names these clocks.
-    pub(crate) fn stamps(&self, alloc: Global, named: &[PlaceClock]) -> Result<Stamps, OutOfMemory>
-        requires accepted { refuse_put (Some (self.now.epoch, self.now.keys)) self.now.carried self.now.epoch (pairs named.now) ≡ None }
-        requires rise { RisePairs 0 (pairs named.now) }
-        ensures { IfOk result (λ stamps. stamps ≡ told_more (pairs named.now) self.now) }
-    {
-        let last = copied(&self.clocks)?;
-        let clocks = or_zeros(alloc, last, self.keys.len())?;
-        let clocks = written(clocks, named);
-        Ok(Stamps::over(self.keys, Clocks::from_vec(clocks)))
-    }
-
     // The clocks are those last carried.
-    pub(crate) fn carry(&mut self, alloc: Global, named: &[PlaceClock]) -> Result<(), OutOfMemory>
-        requires accepted { refuse_put (Some (self.old.epoch, self.old.keys)) self.old.carried self.old.epoch (pairs named.now) ≡ None }
-        requires rise { RisePairs 0 (pairs named.now) }
-        ensures ok { OnOk result (self.new ≡ record self.old { carried = Some (told_more (pairs named.now) self.old) }) }
+    pub(crate) fn carry<L: Lent>(&mut self, alloc: Global, named: &L) -> Result<(), OutOfMemory>
+        requires accepted { refuse_put (Some (self.old.epoch, self.old.keys)) self.old.carried self.old.epoch (pairs (L.named named.now)) ≡ None }
+        requires rise { RisePairs 0 (pairs (L.named named.now)) }
+        ensures ok { OnOk result (self.new ≡ record self.old { carried = Some (told_more (pairs (L.named named.now)) self.old) }) }
         ensures err { OnErr result (self.new ≡ self.old) }
     {
         let last = self.clocks.take();
         let clocks = or_zeros(alloc, last, self.keys.len())?;
         self.clocks = Some(written(clocks, named));
         Ok(())
+    }
+
+    // The stamps that are carried, in empty memory that has room for them.
+    pub(crate) fn carried_in(&self, memory: Vec<Clock>) -> Stamps
+        requires carried { IsSome self.now.carried }
+        requires empty { memory.items ≡ [] }
+        requires room { vec_len memory + length self.now.keys ≤ vec_capacity memory }
+        ensures { self.now.carried ≡ Some result }
+    {
+        let mut clocks = memory;
+        let Some(carried) = &self.clocks else {
+            unreachable!();
+        };
+        if clocks.extend_from_slice(carried.as_slice()).is_err() {
+            unreachable!();
+        }
+        Stamps::over(self.keys, Clocks::from_vec(clocks))
     }
 }
 
@@ -119,11 +131,11 @@ impl Announced {
 }
 
 // The first place that is none of so many.
-fn first_outside(count: usize, named: &[PlaceClock]) -> Option<usize>
-    ensures { result ≡ bad_place count (pairs named.now) }
+fn first_outside<L: Lent>(count: usize, named: &L) -> Option<usize>
+    ensures { result ≡ bad_place count (pairs (L.named named.now)) }
 {
-    for one in named {
-        let place = one.place as usize;
+    for i in 0..named.count() {
+        let place = named.nth(i).place as usize;
         if place >= count {
             return Some(place);
         }
@@ -157,11 +169,12 @@ fn or_zeros(
 }
 
 // The clocks with those at the named places in place of the ones before.
-fn written(mut clocks: Vec<Clock>, named: &[PlaceClock]) -> Vec<Clock>
-    requires { All (λ named. named.place < length clocks.items) named.now }
-    ensures { result.items ≡ rewritten (pairs named.now) clocks.items }
+fn written<L: Lent>(mut clocks: Vec<Clock>, named: &L) -> Vec<Clock>
+    requires { All (λ named. named.place < length clocks.items) (L.named named.now) }
+    ensures { result.items ≡ rewritten (pairs (L.named named.now)) clocks.items }
 {
-    for one in named {
+    for i in 0..named.count() {
+        let one = named.nth(i);
         clocks[one.place as usize] = one.clock;
     }
     clocks

@@ -9,6 +9,7 @@ mod cutting;
 mod emission;
 mod errors;
 mod held;
+mod lent;
 mod slot;
 
 pub use emission::Emission;

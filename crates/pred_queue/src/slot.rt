@@ -14,10 +14,12 @@ use crate::carrying::next_stamps;
 use crate::copying::{copied_head, copied_keys, copied_queue};
 use crate::cutting::{cut_queue, first, is_live, live_head};
 use crate::held::{Held, Waiting};
+use crate::lent::Lent;
 use crate::{Emission, SlotError};
 use std::alloc::Global;
 use std::collections::VecDeque;
 use std::marker::Model;
+use std::mem;
 use std::sync::ledger::Ledger;
 use svc_value::{Clock, OutOfMemory, ServiceId, Steps, Value};
 use wire_frame::PlaceClock;
@@ -42,6 +44,8 @@ pub struct Slot {
     announced: Option<Announced>,
     head: Option<Held>,
     queue: VecDeque<Waiting>,
+    // The clocks of a head that is gone, whose memory is used again.
+    spare: Vec<Clock>,
 }
 
 impl Model for Slot {
@@ -70,6 +74,7 @@ impl Slot {
             announced: None,
             head: None,
             queue: VecDeque::new(alloc),
+            spare: Vec::new(alloc),
         }
     }
 
@@ -123,6 +128,24 @@ impl Slot {
         ensures ok { OnOk result (self.new ≡ put_to own epoch value (pairs clocks.now) self.old) }
         ensures err { IfErr result (λ refused. (refused.1 ≡ value) × (self.new ≡ self.old)) }
     {
+        self.put_lent(own, epoch, value, &clocks)
+    }
+
+    // The same, however the clocks are lent.
+    fn put_lent<L: Lent>(
+        &mut self,
+        own: Clock,
+        epoch: Clock,
+        value: Value,
+        clocks: &L,
+    ) -> Result<Put, (SlotError, Value)>
+        requires { RisePairs 0 (pairs (L.named clocks.now)) }
+        ensures exactly { refusal_with result ≡ refuse_put self.old.announced self.old.carried epoch (pairs (L.named clocks.now)) }
+        ensures kept { result ≡ Ok Put.Kept → live self.old.edge own epoch ≡ true }
+        ensures dropped { result ≡ Ok Put.Dropped → live self.old.edge own epoch ≡ false }
+        ensures ok { OnOk result (self.new ≡ put_to own epoch value (pairs (L.named clocks.now)) self.old) }
+        ensures err { IfErr result (λ refused. (refused.1 ≡ value) × (self.new ≡ self.old)) }
+    {
         let Some(announced) = &mut self.announced else {
             return Err((SlotError::NoSources, value));
         };
@@ -135,7 +158,13 @@ impl Slot {
                 Err(OutOfMemory) => Err((SlotError::OutOfMemory, value)),
             };
         }
-        match next_stamps(self.alloc, announced, &mut self.queue, clocks) {
+        match next_stamps(
+            self.alloc,
+            &mut self.spare,
+            announced,
+            &mut self.queue,
+            clocks,
+        ) {
             Ok(stamps) => {
                 let emission = Emission { value, stamps };
                 self.queue.push_back_reserved(Waiting { epoch, emission });
@@ -169,11 +198,14 @@ impl Slot {
     {
         let number = self.number();
         if let Some(waiting) = self.queue.pop_front() {
-            self.head = Some(Held {
+            let head = Held {
                 epoch: waiting.epoch,
                 number: number.saturating_add(1),
                 emission: waiting.emission,
-            });
+            };
+            if let Some(held) = mem::replace(&mut self.head, Some(head)) {
+                self.spare = held.emission.stamps.into_clocks().into_vec();
+            }
         }
         moves.tick();
     }
@@ -239,6 +271,7 @@ impl Slot {
             announced,
             head,
             queue,
+            spare: Vec::new(self.alloc),
         })
     }
 }

@@ -9,7 +9,7 @@ use std::marker::Brand;
 use std::process::Abort;
 use std::sync::ledger::{Blank, Ledger};
 use std::test::Fail;
-use svc_value::{Clock, ServiceId, Steps, Value};
+use svc_value::{Clock, OutOfMemory, ServiceId, Steps, Value};
 use wire_frame::PlaceClock;
 
 /// What comes. A value is a number; its clocks are all that number.
@@ -281,5 +281,52 @@ fn cut_on_both_sides(rt: HostRuntime) -> Result<(), Fail> {
     let mut copy = slot.copy()?;
     copy.begin_leg();
     assert_eq!(rt; head_of(&copy), NONE);
+    Ok(())
+}
+
+// The stamps of the head, as pairs of key and clock.
+fn stamps_of(alloc: Global, slot: &Slot) -> Result<Vec<(u16, u32)>, OutOfMemory> {
+    let mut pairs = Vec::new(alloc);
+    if let Some(head) = slot.head() {
+        for (key, clock) in head.stamps.iter() {
+            pairs.push((key.0, clock.0))?;
+        }
+    }
+    Ok(pairs)
+}
+
+#[test]
+fn stamps_in_memory_used_again(rt: HostRuntime) -> Result<(), Fail> {
+    let alloc = rt.alloc();
+    let mut slot = Slot::new(alloc, ServiceId(3), Some(Clock(2)));
+    let keys = [ServiceId(0), ServiceId(3), ServiceId(5)];
+    assert!(rt; slot.announce(Clock(2), &keys).is_ok());
+    let all = [named(0, 5), named(1, 5), named(2, 5)];
+    assert_eq!(rt; put(&mut slot, 2, 2, 5, &all), Answer::Kept);
+    assert_eq!(rt; advance(&mut slot), Answer::Done);
+    assert_eq!(rt; put(&mut slot, 2, 2, 6, &[named(2, 6)]), Answer::Kept);
+    assert_eq!(rt; advance(&mut slot), Answer::Done);
+    assert_eq!(rt; put(&mut slot, 2, 2, 7, &[named(0, 7)]), Answer::Kept);
+    assert_eq!(rt; advance(&mut slot), Answer::Done);
+    let stamps = stamps_of(alloc, &slot)?;
+    assert_eq!(rt; stamps.as_slice(), [(0, 8), (3, 6), (5, 7)].as_slice());
+
+    assert!(rt;
+        slot.announce(Clock(2), &[ServiceId(1), ServiceId(4)])
+            .is_ok()
+    );
+    assert_eq!(rt;
+        put(&mut slot, 2, 2, 1, &[named(0, 1), named(1, 1)]),
+        Answer::Kept
+    );
+    assert_eq!(rt; advance(&mut slot), Answer::Done);
+    let stamps = stamps_of(alloc, &slot)?;
+    assert_eq!(rt; stamps.as_slice(), [(1, 2), (4, 2)].as_slice());
+    assert_eq!(rt; put(&mut slot, 2, 2, 2, &[named(1, 2)]), Answer::Kept);
+    assert_eq!(rt; put(&mut slot, 2, 2, 3, &[]), Answer::Kept);
+    assert_eq!(rt; advance(&mut slot), Answer::Done);
+    assert_eq!(rt; advance(&mut slot), Answer::Done);
+    let stamps = stamps_of(alloc, &slot)?;
+    assert_eq!(rt; stamps.as_slice(), [(1, 2), (4, 3)].as_slice());
     Ok(())
 }

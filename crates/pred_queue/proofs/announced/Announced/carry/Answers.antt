@@ -6,18 +6,18 @@ use Rattle.stamp_clock.specs.Beside.{AreBeside}
 use Rattle.pred_queue.proofs.announced.Announced.carry.Goals as goal
 
 pub written-requires : goal.written-requires
-written-requires c =
-    told-within c.args.self.now c.self.inside.epoch c.self.inside.keys (items_in c.self.inside.clocks) c.self.view_is c.self.invariant.0 c.self.invariant.1 c.args.named.now c.requires.accepted
+written-requires g c =
+    told-within c.args.self.now c.self.inside.epoch c.self.inside.keys (items_in c.self.inside.clocks) c.self.view_is c.self.invariant.0 c.self.invariant.1 (g.L.Lent.named c.args.named.now) c.requires.accepted
     c.in_ok-clocks.clocks.items (c.in_ok-clocks.ensures.made ∙ ap₂ (λ o n. unwrap_or o (replicate n 0)) (ap items_in c.take-last.ensures.value) c.len.ensures.len)
 
 pub invariant_of-self-2 : goal.invariant_of-self-2
-invariant_of-self-2 c =
-    let beside = told-beside c.args.self.now c.self.inside.epoch c.self.inside.keys (items_in c.self.inside.clocks) c.self.view_is c.self.invariant.0 c.self.invariant.1 c.args.named.now c.requires.accepted
+invariant_of-self-2 g c =
+    let beside = told-beside c.args.self.now c.self.inside.epoch c.self.inside.keys (items_in c.self.inside.clocks) c.self.view_is c.self.invariant.0 c.self.invariant.1 (g.L.Lent.named c.args.named.now) c.requires.accepted
     c.in_ok-clocks.clocks.items c.written.result.items (c.in_ok-clocks.ensures.made ∙ ap₂ (λ o n. unwrap_or o (replicate n 0)) (ap items_in c.take-last.ensures.value) c.len.ensures.len) c.written.ensures c.requires.rise in
     (c.self.invariant.0, λ clocks e. subst (λ (cs : List ℕ). AreBeside c.self.inside.keys cs) (same_Some c.written.result.items clocks e) beside)
 
 pub returns-clause-ok : goal.returns-clause-ok
-returns-clause-ok c =
-    let more = told-more c.args.self.now c.self.inside.epoch c.self.inside.keys (items_in c.self.inside.clocks) c.self.view_is c.self.invariant.0 c.self.invariant.1 c.args.named.now c.requires.accepted
+returns-clause-ok g c =
+    let more = told-more c.args.self.now c.self.inside.epoch c.self.inside.keys (items_in c.self.inside.clocks) c.self.view_is c.self.invariant.0 c.self.invariant.1 (g.L.Lent.named c.args.named.now) c.requires.accepted
     c.in_ok-clocks.clocks.items c.written.result.items (c.in_ok-clocks.ensures.made ∙ ap₂ (λ o n. unwrap_or o (replicate n 0)) (ap items_in c.take-last.ensures.value) c.len.ensures.len) c.written.ensures c.requires.rise in
     λ i. record { epoch = ap (λ (told : Told). told.epoch) c.self.view_is i; keys = ap (λ (told : Told). told.keys) c.self.view_is i; carried = Some (more i) }

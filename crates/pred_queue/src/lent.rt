@@ -1,0 +1,34 @@
+// Clocks of places, lent as a list or by the bytes of a frame.
+ghost use Rattle.std.specs.Prelude.{◌≡◌, ◌<◌, Some, length, slice_get};
+
+use wire_frame::PlaceClock;
+
+/// Clocks of places that somebody else holds.
+pub(crate) trait Lent {
+    ghost use Rattle.std.specs.Prelude.{List};
+    ghost use Rattle.wire_frame.specs.declared.place_clock.PlaceClock.{PlaceClock};
+
+    /// The list of them.
+    ghost named: { Self → List PlaceClock };
+
+    /// How many they are.
+    fn count(&self) -> usize
+        ensures { result ≡ length (named self.now) };
+
+    /// The one at `i`, which is below their number.
+    fn nth(&self, i: usize) -> PlaceClock
+        requires { i < length (named self.now) }
+        ensures { slice_get (named self.now) i ≡ Some result };
+}
+
+impl Lent for &[PlaceClock] {
+    ghost named = { λ clocks. clocks.now };
+
+    fn count(&self) -> usize {
+        self.len()
+    }
+
+    fn nth(&self, i: usize) -> PlaceClock {
+        self[i]
+    }
+}
