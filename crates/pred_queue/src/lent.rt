@@ -1,7 +1,7 @@
 // Clocks of places, lent as a list or by the bytes of a frame.
 ghost use Rattle.std.specs.Prelude.{◌≡◌, ◌<◌, Some, length, slice_get};
 
-use wire_frame::PlaceClock;
+use wire_frame::{PlaceClock, PlacesIn};
 
 /// Clocks of places that somebody else holds.
 pub(crate) trait Lent {
@@ -30,5 +30,17 @@ impl Lent for &[PlaceClock] {
 
     fn nth(&self, i: usize) -> PlaceClock {
         self[i]
+    }
+}
+
+impl<'a> Lent for PlacesIn<'a> {
+    ghost named = { λ clocks. clocks };
+
+    fn count(&self) -> usize {
+        self.len()
+    }
+
+    fn nth(&self, i: usize) -> PlaceClock {
+        self.at(i)
     }
 }

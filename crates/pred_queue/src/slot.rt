@@ -22,7 +22,7 @@ use std::marker::Model;
 use std::mem;
 use std::sync::ledger::Ledger;
 use svc_value::{Clock, OutOfMemory, ServiceId, Steps, Value};
-use wire_frame::PlaceClock;
+use wire_frame::{PlaceClock, PlacesIn};
 
 /// What became of a value.
 #[derive(Clone, Copy, Debug, PartialEq, Eq)]
@@ -126,6 +126,25 @@ impl Slot {
         ensures kept { result ≡ Ok Put.Kept → live self.old.edge own epoch ≡ true }
         ensures dropped { result ≡ Ok Put.Dropped → live self.old.edge own epoch ≡ false }
         ensures ok { OnOk result (self.new ≡ put_to own epoch value (pairs clocks.now) self.old) }
+        ensures err { IfErr result (λ refused. (refused.1 ≡ value) × (self.new ≡ self.old)) }
+    {
+        self.put_lent(own, epoch, value, &clocks)
+    }
+
+    /// A value comes as to `put`, with clocks that the bytes of a frame lend. The answers, the refusals and what a refusal
+    /// leaves are those of `put`.
+    pub fn put_places(
+        &mut self,
+        own: Clock,
+        epoch: Clock,
+        value: Value,
+        clocks: PlacesIn<'_>,
+    ) -> Result<Put, (SlotError, Value)>
+        requires { RisePairs 0 (pairs clocks) }
+        ensures exactly { refusal_with result ≡ refuse_put self.old.announced self.old.carried epoch (pairs clocks.entry) }
+        ensures kept { result ≡ Ok Put.Kept → live self.old.edge own epoch ≡ true }
+        ensures dropped { result ≡ Ok Put.Dropped → live self.old.edge own epoch ≡ false }
+        ensures ok { OnOk result (self.new ≡ put_to own epoch value (pairs clocks.entry) self.old) }
         ensures err { IfErr result (λ refused. (refused.1 ≡ value) × (self.new ≡ self.old)) }
     {
         self.put_lent(own, epoch, value, &clocks)

@@ -1,5 +1,5 @@
 // Tables of what comes to a slot, in each order of epochs.
-ghost use Rattle.std.specs.Prelude.{◌≡◌, ◌<◌};
+ghost use Rattle.std.specs.Prelude.{◌≡◌, ◌<◌, length};
 ghost use Rattle.propagation.specs.Stamps.{RisePairs};
 ghost use Rattle.wire_frame.specs.Frames.{pairs};
 
@@ -9,8 +9,8 @@ use std::marker::Brand;
 use std::process::Abort;
 use std::sync::ledger::{Blank, Ledger};
 use std::test::Fail;
-use svc_value::{Clock, OutOfMemory, ServiceId, Steps, Value};
-use wire_frame::PlaceClock;
+use svc_value::{Clock, OutOfMemory, ServiceId, Steps, Value, put_value};
+use wire_frame::{FrameIn, PlaceClock, read_lent};
 
 /// What comes. A value is a number; its clocks are all that number.
 #[derive(Clone, Copy, Debug, PartialEq, Eq)]
@@ -37,17 +37,76 @@ enum Answer {
     Kept,
     Dropped,
     Still,
+    /// The bytes are no value of version 2.
+    Unread,
     Refused(SlotError),
 }
 
-fn put(slot: &mut Slot, own: u32, epoch: u32, number: u16, clocks: &[PlaceClock]) -> Answer
-    requires { RisePairs 0 (pairs clocks.now) }
-{
-    match slot.put(Clock(own), Clock(epoch), Value::Int(number as i64), clocks) {
+/// How the clocks of a value are lent.
+#[derive(Clone, Copy)]
+enum Way {
+    /// As a list.
+    List,
+    /// By the bytes of a frame, in memory of this allocator.
+    Bytes(Global),
+}
+
+fn answer_of(put: Result<Put, (SlotError, Value)>) -> Answer {
+    match put {
         Ok(Put::Kept) => Answer::Kept,
         Ok(Put::Dropped) => Answer::Dropped,
         Err(refused) => Answer::Refused(refused.0),
     }
+}
+
+fn put(
+    slot: &mut Slot,
+    way: Way,
+    own: u32,
+    epoch: u32,
+    number: u16,
+    clocks: &[PlaceClock],
+) -> Answer
+    requires rise { RisePairs 0 (pairs clocks.now) }
+    requires few { length clocks.now < 256 }
+{
+    let value = Value::Int(number as i64);
+    match way {
+        Way::List => answer_of(slot.put(Clock(own), Clock(epoch), value, clocks)),
+        Way::Bytes(alloc) => match bytes_of(alloc, epoch, &value, clocks) {
+            Ok(bytes) => put_bytes(alloc, slot, own, bytes.as_slice()),
+            Err(OutOfMemory) => refused(SlotError::OutOfMemory),
+        },
+    }
+}
+
+fn put_bytes(alloc: Global, slot: &mut Slot, own: u32, bytes: &[u8]) -> Answer {
+    match read_lent(alloc, bytes) {
+        Ok((FrameIn::Changed(delta), _)) => {
+            answer_of(slot.put_places(Clock(own), delta.epoch, delta.value, delta.clocks))
+        }
+        _ => Answer::Unread,
+    }
+}
+
+// The bytes of a value of version 2.
+fn bytes_of(
+    alloc: Global,
+    epoch: u32,
+    value: &Value,
+    clocks: &[PlaceClock],
+) -> Result<Vec<u8>, OutOfMemory>
+    requires { length clocks.now < 256 }
+{
+    let mut bytes = Vec::from_slice(alloc, &[5])?;
+    bytes.extend_from_slice(&epoch.to_be_bytes())?;
+    put_value(value, &mut bytes)?;
+    bytes.push(clocks.len() as u8)?;
+    for named in clocks {
+        bytes.push(named.place)?;
+        bytes.extend_from_slice(&named.clock.0.to_be_bytes())?;
+    }
+    Ok(bytes)
 }
 
 fn named(place: u8, number: u16) -> PlaceClock
@@ -77,7 +136,7 @@ fn advance(slot: &mut Slot) -> Answer {
     advance_with::<Brand>(slot, Blank::new(1))
 }
 
-fn take(slot: &mut Slot, step: Step) -> Answer {
+fn take(slot: &mut Slot, way: Way, step: Step) -> Answer {
     match step {
         Step::Keys { epoch } => match slot.announce(Clock(epoch), &[ServiceId(0), ServiceId(3)]) {
             Ok(()) => Answer::Done,
@@ -86,14 +145,29 @@ fn take(slot: &mut Slot, step: Step) -> Answer {
         Step::Whole { own, epoch, number } => {
             put(
                 slot,
+                way,
                 own,
                 epoch,
                 number,
                 &[named(0, number), named(1, number)],
             )
         }
-        Step::Part { own, epoch, number } => put(slot, own, epoch, number, &[named(1, number)]),
-        Step::Outside { own, epoch, number } => put(slot, own, epoch, number, &[named(2, number)]),
+        Step::Part { own, epoch, number } => put(
+            slot,
+            way,
+            own,
+            epoch,
+            number,
+            &[named(1, number)],
+        ),
+        Step::Outside { own, epoch, number } => put(
+            slot,
+            way,
+            own,
+            epoch,
+            number,
+            &[named(2, number)],
+        ),
         Step::Advance => advance(slot),
         Step::Edge { clock, epoch } => {
             slot.cut(Clock(clock), Some(Clock(epoch)));
@@ -125,9 +199,9 @@ fn head_of(slot: &Slot) -> (u64, i64, u32, u32) {
 
 type Row<'a> = (&'a str, Step, Answer, (u64, i64, u32, u32));
 
-fn run(rt: &impl Abort, slot: &mut Slot, rows: &[Row<'_>]) {
+fn run(rt: &impl Abort, slot: &mut Slot, way: Way, rows: &[Row<'_>]) {
     for (name, step, answer, head) in rows {
-        assert_eq!(rt; take(slot, *step), *answer, "{name}");
+        assert_eq!(rt; take(slot, way, *step), *answer, "{name}");
         assert_eq!(rt; head_of(slot), *head, "the head, {name}");
     }
 }
@@ -178,10 +252,16 @@ fn unheard() -> Answer {
 
 #[test]
 fn epochs_in_each_order(rt: HostRuntime) {
-    let mut slot = Slot::new(rt.alloc(), ServiceId(3), Some(Clock(2)));
+    each_order(&rt, rt.alloc(), Way::List);
+    each_order(&rt, rt.alloc(), Way::Bytes(rt.alloc()));
+}
+
+fn each_order(rt: &impl Abort, alloc: Global, way: Way) {
+    let mut slot = Slot::new(alloc, ServiceId(3), Some(Clock(2)));
     run(
-        &rt,
+        rt,
         &mut slot,
+        way,
         &[
             ("nothing announced", whole(2, 2, 5), unheard(), NONE),
             ("keys", keys(2), Answer::Done, NONE),
@@ -212,10 +292,16 @@ fn epochs_in_each_order(rt: HostRuntime) {
 
 #[test]
 fn cut_on_both_sides(rt: HostRuntime) -> Result<(), Fail> {
-    let mut slot = Slot::new(rt.alloc(), ServiceId(3), Some(Clock(2)));
+    both_sides(&rt, rt.alloc(), Way::List)?;
+    both_sides(&rt, rt.alloc(), Way::Bytes(rt.alloc()))
+}
+
+fn both_sides(rt: &impl Abort, alloc: Global, way: Way) -> Result<(), Fail> {
+    let mut slot = Slot::new(alloc, ServiceId(3), Some(Clock(2)));
     run(
-        &rt,
+        rt,
         &mut slot,
+        way,
         &[
             ("keys under 2", keys(2), Answer::Done, NONE),
             ("of the edge", whole(2, 2, 5), Answer::Kept, NONE),
@@ -298,15 +384,16 @@ fn stamps_of(alloc: Global, slot: &Slot) -> Result<Vec<(u16, u32)>, OutOfMemory>
 #[test]
 fn stamps_in_memory_used_again(rt: HostRuntime) -> Result<(), Fail> {
     let alloc = rt.alloc();
+    let way = Way::Bytes(alloc);
     let mut slot = Slot::new(alloc, ServiceId(3), Some(Clock(2)));
     let keys = [ServiceId(0), ServiceId(3), ServiceId(5)];
     assert!(rt; slot.announce(Clock(2), &keys).is_ok());
     let all = [named(0, 5), named(1, 5), named(2, 5)];
-    assert_eq!(rt; put(&mut slot, 2, 2, 5, &all), Answer::Kept);
+    assert_eq!(rt; put(&mut slot, way, 2, 2, 5, &all), Answer::Kept);
     assert_eq!(rt; advance(&mut slot), Answer::Done);
-    assert_eq!(rt; put(&mut slot, 2, 2, 6, &[named(2, 6)]), Answer::Kept);
+    assert_eq!(rt; put(&mut slot, way, 2, 2, 6, &[named(2, 6)]), Answer::Kept);
     assert_eq!(rt; advance(&mut slot), Answer::Done);
-    assert_eq!(rt; put(&mut slot, 2, 2, 7, &[named(0, 7)]), Answer::Kept);
+    assert_eq!(rt; put(&mut slot, way, 2, 2, 7, &[named(0, 7)]), Answer::Kept);
     assert_eq!(rt; advance(&mut slot), Answer::Done);
     let stamps = stamps_of(alloc, &slot)?;
     assert_eq!(rt; stamps.as_slice(), [(0, 8), (3, 6), (5, 7)].as_slice());
@@ -316,14 +403,14 @@ fn stamps_in_memory_used_again(rt: HostRuntime) -> Result<(), Fail> {
             .is_ok()
     );
     assert_eq!(rt;
-        put(&mut slot, 2, 2, 1, &[named(0, 1), named(1, 1)]),
+        put(&mut slot, way, 2, 2, 1, &[named(0, 1), named(1, 1)]),
         Answer::Kept
     );
     assert_eq!(rt; advance(&mut slot), Answer::Done);
     let stamps = stamps_of(alloc, &slot)?;
     assert_eq!(rt; stamps.as_slice(), [(1, 2), (4, 2)].as_slice());
-    assert_eq!(rt; put(&mut slot, 2, 2, 2, &[named(1, 2)]), Answer::Kept);
-    assert_eq!(rt; put(&mut slot, 2, 2, 3, &[]), Answer::Kept);
+    assert_eq!(rt; put(&mut slot, way, 2, 2, 2, &[named(1, 2)]), Answer::Kept);
+    assert_eq!(rt; put(&mut slot, way, 2, 2, 3, &[]), Answer::Kept);
     assert_eq!(rt; advance(&mut slot), Answer::Done);
     assert_eq!(rt; advance(&mut slot), Answer::Done);
     let stamps = stamps_of(alloc, &slot)?;
