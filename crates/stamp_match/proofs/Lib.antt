@@ -1,1 +1,6 @@
 pub mod SlotsLemmas
+pub mod LagLemmas
+pub mod GreatestLemmas
+pub mod HeldLemmas
+pub mod KeptLemmas
+pub mod TurnLemmas

@@ -1,2 +1,5 @@
 pub mod Named
 pub mod Looks
+pub mod Kept
+pub mod Falling
+pub mod Moved

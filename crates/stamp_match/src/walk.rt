@@ -3,6 +3,7 @@ ghost use Rattle.std.specs.Prelude.{◌≡◌, ◌+◌, ◌≤◌, length, nat_l
 ghost use Rattle.propagation.specs.Stamps.{clock_of};
 ghost use Rattle.service_machine.specs.States.{raise};
 ghost use Rattle.service_machine.specs.Turning.{lag};
+ghost use Rattle.stamp_clock.specs.Beside.{AreStamps};
 
 use stamp_clock::{Floor, Stamps};
 use std::sync::ledger::Ledger;
@@ -26,6 +27,7 @@ pub(crate) fn first_lag<L: Ledger>(
     looks: &mut Steps<L>,
 ) -> Option<ServiceId>
     ensures key { result ≡ lag tops.now stamps.now }
+    ensures stamps { AreStamps stamps.now }
     ensures looks { looks.new ≤ looks.old + length stamps.now }
 {
     for (key, clock) in stamps.iter() {
@@ -38,11 +40,21 @@ pub(crate) fn first_lag<L: Ledger>(
 }
 
 // Whether the clock of a key is below its greatest one.
-fn is_below(tops: &Floor, key: ServiceId, clock: Clock) -> bool
+pub(crate) fn is_below(tops: &Floor, key: ServiceId, clock: Clock) -> bool
     ensures { result ≡ nat_lt clock (clock_of tops.now key) }
 {
     match tops.get(key) {
         Some(top) => clock < top,
         None => false,
+    }
+}
+
+// Whether the clock of a key is above the one of a floor.
+pub(crate) fn is_above(floor: &Floor, key: ServiceId, clock: Clock) -> bool
+    ensures { result ≡ nat_lt (clock_of floor.now key) clock }
+{
+    match floor.get(key) {
+        Some(before) => before < clock,
+        None => clock > Clock(0),
     }
 }

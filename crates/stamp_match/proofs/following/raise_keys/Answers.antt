@@ -1,0 +1,30 @@
+use Rattle.std.proofs.Common.{◌≡◌, ◌+◌, suc, length, sym, subst, ap, ◌∙◌, arith}
+use Rattle.propagation.specs.Stamps.{Stamps}
+use Rattle.service_machine.specs.States.{raise}
+use Rattle.stamp_clock.proofs.FloorLemmas.{ArePairs, are-pairs, pairs-first, pairs-rest}
+use Rattle.stamp_match.proofs.following.raise_keys.Goals as goal
+
+pub loop-key-init : goal.loop-key-init
+loop-key-init g c =
+    let whole = c.into_iter-key-iterator.ensures.into_iter_gives ∙ c.iter-key-items.ensures.pairs in
+    record {
+      pairs = subst (λ (S : Stamps). ArePairs S) (sym whole) (are-pairs c.args.stamps.now c.iter-key-items.ensures.stamps);
+      rising = c.requires.rising;
+      raised = ap (λ (S : Stamps). raise c.args.tops.now S) whole;
+      looks = ap (λ (S : Stamps). c.args.looks.now + length S) whole;
+      followed = λ place lt h. h;
+    }
+
+pub raise_key-requires-clause-positive : goal.raise_key-requires-clause-positive
+raise_key-requires-clause-positive g c = (pairs-first c.loop-key.key-iterator c.next.new.self (c.in-Some.key, c.in-Some.clock) c.in-Some.ensures.steps c.loop-key.invariant.pairs).1
+
+pub loop-key-preserved : goal.loop-key-preserved
+loop-key-preserved g c =
+    let more : length c.loop-key.key-iterator ≡ suc (length c.next.new.self) = ap length c.in-Some.ensures.steps in
+    record {
+      pairs = pairs-rest c.loop-key.key-iterator c.next.new.self (c.in-Some.key, c.in-Some.clock) c.in-Some.ensures.steps c.loop-key.invariant.pairs;
+      rising = c.raise_key.ensures.rising;
+      raised = ap (λ (F : Stamps). raise F c.next.new.self) c.raise_key.ensures.raised ∙ ap (λ (S : Stamps). raise c.loop-key.tops S) (sym c.in-Some.ensures.steps) ∙ c.loop-key.invariant.raised;
+      looks = omega (arith, c.tick.ensures, c.loop-key.invariant.looks);
+      followed = λ place lt h. c.raise_key.ensures.followed place lt (c.loop-key.invariant.followed place lt h);
+    }

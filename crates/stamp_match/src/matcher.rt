@@ -1,0 +1,198 @@
+// What the turn table looks for, kept up to date.
+ghost use Rattle.std.specs.Prelude.{◌≡◌, ◌+◌, ◌-◌, ◌*◌, ◌^◌, ◌<◌, ◌≤◌, true, false, None, [], length, option_map, slice_index_or, slice_set, IfSome, IfNone};
+ghost use Rattle.propagation.specs.Stamps.{IsRising};
+ghost use Rattle.service_machine.specs.States.{has_next, advanced, number_of, raise as raised};
+ghost use Rattle.service_machine.specs.Turning.{choice as chosen, head_lag, lagging as first_that_lags, tops as greatest};
+ghost use Rattle.pred_queue.specs.Capped.{capped};
+ghost use Rattle.stamp_match.specs.Kept.{IsMatcherOf, IsKept, head_stamps, slot_in};
+ghost use Rattle.stamp_match.specs.Looks.{head_keys, keys_in, named_keys};
+ghost use Rattle.stamp_match.specs.Named.{named, IsAmong};
+ghost use Rattle.stamp_match.specs.Moved.{IsRaised, IsMoved, Leads};
+
+use crate::Choice;
+use crate::following::{flags, head_lags, raise_keys};
+use crate::held::Held;
+use crate::slots::{first_headless, first_waiting, tops};
+use crate::walk::first_lag;
+use pred_queue::Slot;
+use stamp_clock::{Floor, Stamps};
+use std::sync::ledger::Ledger;
+use svc_value::{ServiceId, Steps};
+
+/// What `choose` finds among at most 16 slots, kept up to date: for each key the greatest clock of the floor and of the heads,
+/// and which heads lag. It rests on the floor and on the stamps of the heads alone, and holds no memory of its own.
+#[derive(Clone, Copy, Debug)]
+pub struct Matcher {
+    tops: Floor,
+    lagging: [bool; 16],
+}
+
+impl Matcher {
+    /// The one of no slots under a floor that nothing has raised.
+    pub fn new() -> Matcher
+        ensures { IsKept [] [] result }
+    {
+        Matcher {
+            tops: Floor::new(),
+            lagging: [false; 16],
+        }
+    }
+
+    /// The one of these slots, at most 16, under this floor, found by walking over all clocks of their heads twice. It takes no
+    /// memory.
+    pub fn found<L: Ledger>(slots: &[Slot], floor: &Floor, looks: &mut Steps<L>) -> Matcher
+        requires few { length slots.now ≤ 16 }
+        requires rising { IsRising 0 floor.now }
+        ensures matcher { IsMatcherOf slots.now floor.now result }
+        ensures looks { looks.new ≤ looks.old + 2 * head_keys slots.now }
+    {
+        let tops = tops(slots, floor, looks);
+        let lagging = flags(&tops, slots, looks);
+        Matcher { tops, lagging }
+    }
+
+    // The first slot whose head lags.
+    fn first_lagging(&self, slots: &[Slot], floor: &Floor) -> Option<usize>
+        requires { IsMatcherOf slots.now floor.now self.now }
+        ensures tops { first_that_lags (greatest slots.now floor.now) slots.now ≡ first_that_lags self.now.tops slots.now }
+        ensures some { IfSome result (Leads self.now.tops slots.now) }
+        ensures none { IfNone result (first_that_lags self.now.tops slots.now ≡ None) }
+    {
+        for place in 0..slots.len() {
+            if self.lagging[place] {
+                return Some(place);
+            }
+        }
+        None
+    }
+
+    // The least key on which the head of a slot lags.
+    fn key_of<L: Ledger>(&self, slot: &Slot, looks: &mut Steps<L>) -> Option<ServiceId>
+        ensures key { result ≡ head_lag self.now.tops slot.now.head }
+        ensures looks { looks.new ≤ looks.old + keys_in slot.now.head }
+    {
+        let head = slot.head()?;
+        first_lag(&self.tops, &head.stamps, looks)
+    }
+
+    /// What `choose` answers for these slots, this floor and `due`, where the matcher is theirs. It looks at no clock but those
+    /// of the head that is named, where the answer is `Lags`.
+    pub fn choice<L: Ledger>(
+        &self,
+        slots: &[Slot],
+        floor: &Floor,
+        due: bool,
+        looks: &mut Steps<L>,
+    ) -> Choice
+        requires { IsMatcherOf slots.now floor.now self.now }
+        ensures table { named slots.now result ≡ chosen slots.now floor.now due }
+        ensures slot { IsAmong (length slots.now) result }
+        ensures looks { looks.new ≤ looks.old + named_keys slots.now result }
+    {
+        if let Some(place) = first_headless(slots) {
+            let slot = &slots[place];
+            return if slot.has_next() {
+                Choice::Advance(place)
+            } else {
+                Choice::Empty(place)
+            };
+        }
+        if let Some(place) = self.first_lagging(slots, floor) {
+            let slot = &slots[place];
+            if slot.has_next() {
+                return Choice::Advance(place);
+            }
+            let key = self.key_of(slot, looks).unwrap();
+            return Choice::Lags { slot: place, key };
+        }
+        if due {
+            return Choice::Ready;
+        }
+        match first_waiting(slots) {
+            Some(place) => Choice::Advance(place),
+            None => Choice::Still,
+        }
+    }
+
+    /// The floor takes for each key the greater clock of it and of the stamps, and the matcher, which is that of the slots and
+    /// the floor, is so again. It takes one look for each key of the stamps, and no memory.
+    pub fn raise<L: Ledger>(
+        &mut self,
+        floor: &mut Floor,
+        stamps: &Stamps,
+        slots: &[Slot],
+        looks: &mut Steps<L>,
+    )
+        requires { IsMatcherOf slots.now floor.old self.old }
+        ensures matcher { IsMatcherOf slots.now floor.new self.new }
+        ensures floor { floor.new ≡ raised floor.old stamps.now }
+        ensures looks { looks.new ≡ looks.old + length stamps.now }
+    {
+        let _ = floor.raise(stamps);
+        raise_keys(&mut self.tops, &mut self.lagging, slots, stamps, looks);
+    }
+
+    // Takes the clocks of the head at a place.
+    fn raise_head<L: Ledger>(&mut self, slots: &[Slot], place: usize, looks: &mut Steps<L>)
+        requires place { place < length slots.now }
+        requires few { length slots.now ≤ 16 }
+        requires places { length self.old.lagging ≡ 16 }
+        requires rising { IsRising 0 self.old.tops }
+        ensures raised { IsRaised (head_stamps slots.now) place self.old self.new }
+        ensures looks { looks.new ≡ looks.old + keys_in (slot_in slots.now place).head }
+    {
+        let slot = &slots[place];
+        let Some(head) = slot.head() else {
+            return;
+        };
+        raise_keys(
+            &mut self.tops,
+            &mut self.lagging,
+            slots,
+            &head.stamps,
+            looks,
+        );
+    }
+
+    // The head at a place came, and no greatest clock fell with the one before it.
+    fn follow<L: Ledger>(&mut self, slots: &[Slot], place: usize, looks: &mut Steps<L>)
+        requires place { place < length slots.now }
+        requires few { length slots.now ≤ 16 }
+        requires places { length self.old.lagging ≡ 16 }
+        requires rising { IsRising 0 self.old.tops }
+        ensures moved { IsMoved (head_stamps slots.now) place self.old self.new }
+        ensures looks { looks.new ≤ looks.old + 2 * keys_in (slot_in slots.now place).head }
+    {
+        self.raise_head(slots, place, looks);
+        self.lagging[place] = head_lags(&self.tops, &slots[place], looks);
+    }
+
+    /// The next value of the slot at `place`, which has one, becomes its head, with one step of `moves`, and the matcher, which
+    /// is that of the slots and the floor, is so again. Where no greatest clock falls, it looks at the clocks of the head that
+    /// goes and of the one that comes alone; else it is found anew. It takes no memory.
+    pub fn advance<M: Ledger, L: Ledger>(
+        &mut self,
+        slots: &mut [Slot],
+        place: usize,
+        floor: &Floor,
+        moves: &mut Steps<M>,
+        looks: &mut Steps<L>,
+    )
+        requires place { place < length slots.old }
+        requires next { has_next (slot_in slots.old place) ≡ true }
+        requires matcher { IsMatcherOf slots.old floor.now self.old }
+        ensures advanced { number_of (slot_in slots.old place).head < 2 ^ 64 - 1 → slots.new ≡ slice_set slots.old place (advanced (slot_in slots.old place)) }
+        ensures slots { slots.new ≡ slice_set slots.old place (capped (advanced (slot_in slots.old place))) }
+        ensures matcher { IsMatcherOf slots.new floor.now self.new }
+        ensures moves { moves.new ≡ moves.old + 1 }
+    {
+        let held = Held::of(&self.tops, floor, slots, place, looks);
+        let slot = &mut slots[place];
+        slot.advance(moves);
+        if held.falls_at(slots, place) {
+            *self = Matcher::found(slots, floor, looks);
+        } else {
+            self.follow(slots, place, looks);
+        }
+    }
+}
