@@ -1,5 +1,5 @@
 -- What the flags tell of the turn table.
-use Rattle.std.proofs.Common.{◌≡◌, ℕ, zero, suc, ◌+◌, ◌<◌, true, false, List, [], ◌∷◌, drop, length, slice_get, slice_index_or, Option, option_map, is_some, Some, None, sum_by, refl, sym, ap, ap₂, ◌∙◌, arith}
+use Rattle.std.proofs.Common.{take, ◌≤◌, ◌≡◌, ℕ, zero, suc, ◌+◌, ◌<◌, true, false, List, [], ◌∷◌, drop, length, slice_get, slice_index_or, Option, option_map, is_some, Some, None, sum_by, refl, sym, ap, ap₂, ◌∙◌, arith}
 use Rattle.std.proofs.lemmas.List.Sums.{sum_by-cons}
 use Rattle.std.proofs.lemmas.List.{get_or-map, get_or_default, length-map}
 use Rattle.propagation.specs.Stamps.{Stamps, clock_of}
@@ -78,15 +78,35 @@ module _ {V : Type 0} where
   pub tops-same : (slots : List (Slot V)) (floor : Stamps) (matcher : Matcher) → IsKept (head_stamps slots) floor matcher → lagging (tops slots floor) slots ≡ lagging matcher.tops slots
   tops-same slots floor matcher h = lagging-same (tops slots floor) matcher.tops slots (λ q. greatest-tops slots floor q h.floor_rises h.heads_rise ∙ sym (h.tops q))
 
+  keys-here : (o : Option (Head V)) (rest : List (Slot V)) → sum_by (λ (m : Emission V). length m.stamps) (with_head o (heads rest)) ≡ keys_in o + head_keys rest
+  keys-here None rest = omega arith
+  keys-here (Some h) rest = sum_by-cons (λ (m : Emission V). length m.stamps) h.emission (heads rest)
+
   -- the keys of one head more
   pub keys-drop : (xs : List (Slot V)) (i : ℕ) (s : Slot V) → i < length xs → s ≡ slice_index_or xs i s → head_keys (drop i xs) ≡ keys_in s.head + head_keys (drop (i + 1) xs)
   keys-drop xs i s lt is = go xs i s lt is ∙ (let more : suc i ≡ i + 1 = omega arith in ap (λ n. keys_in s.head + head_keys (drop n xs)) more)
     where
-      here : (o : Option (Head V)) (rest : List (Slot V)) → sum_by (λ (m : Emission V). length m.stamps) (with_head o (heads rest)) ≡ keys_in o + head_keys rest
-      here None rest = omega arith
-      here (Some h) rest = sum_by-cons (λ (m : Emission V). length m.stamps) h.emission (heads rest)
-
       go : (xs : List (Slot V)) (i : ℕ) (s : Slot V) → i < length xs → s ≡ slice_index_or xs i s → head_keys (drop i xs) ≡ keys_in s.head + head_keys (drop (suc i) xs)
       go [] i s lt is = absurd (omega arith)
-      go (y ∷ rest) zero s lt is = here y.head rest ∙ ap (λ (z : Slot V). keys_in z.head + head_keys rest) (sym is)
+      go (y ∷ rest) zero s lt is = keys-here y.head rest ∙ ap (λ (z : Slot V). keys_in z.head + head_keys rest) (sym is)
       go (y ∷ rest) (suc i) s lt is = go rest i s (omega arith) is
+
+  pub keys-within : (xs : List (Slot V)) (i : ℕ) → keys_in (slot_in xs i).head ≤ head_keys xs
+  keys-within [] i = omega arith
+  keys-within (y ∷ rest) zero = let is : head_keys (y ∷ rest) ≡ keys_in y.head + head_keys rest = keys-here y.head rest in omega arith
+  keys-within (y ∷ rest) (suc i) = let is : head_keys (y ∷ rest) ≡ keys_in y.head + head_keys rest = keys-here y.head rest in let less : keys_in (slot_in rest i).head ≤ head_keys rest = keys-within rest i in omega arith
+
+  -- the first slots
+  pub head-first : (n : ℕ) (xs : List (Slot V)) (i : ℕ) → i < n → slice_index_or (head_stamps (take n xs)) i None ≡ slice_index_or (head_stamps xs) i None
+  head-first zero [] i lt = absurd (omega arith)
+  head-first (suc n) [] i lt = refl
+  head-first zero (y ∷ rest) i lt = absurd (omega arith)
+  head-first (suc n) (y ∷ rest) zero lt = refl
+  head-first (suc n) (y ∷ rest) (suc i) lt = head-first n rest i (omega arith)
+
+  pub slot-first : (n : ℕ) (xs : List (Slot V)) (i : ℕ) → i < n → slot_in (take n xs) i ≡ slot_in xs i
+  slot-first zero [] i lt = absurd (omega arith)
+  slot-first (suc n) [] i lt = refl
+  slot-first zero (y ∷ rest) i lt = absurd (omega arith)
+  slot-first (suc n) (y ∷ rest) zero lt = refl
+  slot-first (suc n) (y ∷ rest) (suc i) lt = slot-first n rest i (omega arith)

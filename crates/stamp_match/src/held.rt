@@ -1,8 +1,8 @@
 // The clocks of a head with which a greatest clock may fall.
-ghost use Rattle.std.specs.Prelude.{◌≡◌, ℕ, ◌+◌, ◌<◌, ◌≤◌, false, None, Some, length, option_map, slice_index_or};
+ghost use Rattle.std.specs.Prelude.{◌≡◌, ◌↔◌, ◌+◌, ◌<◌, ◌≤◌, IsFalse, None, Some, length, option_map, slice_index_or};
 ghost use Rattle.propagation.specs.Stamps.{clock_of};
-ghost use Rattle.stamp_match.specs.Falling.{IsEnd, IsHeld};
-ghost use Rattle.stamp_match.specs.Kept.{clock_in, head_stamps, slot_in};
+ghost use Rattle.stamp_match.specs.Falling.{NoneFalls, IsEnd, IsHeld, keys_from};
+ghost use Rattle.stamp_match.specs.Kept.{head_stamps, slot_in};
 ghost use Rattle.stamp_match.specs.Looks.{keys_in};
 
 use crate::walk::{is_above, is_below};
@@ -29,6 +29,7 @@ impl Held {
     ) -> Held
         requires { place < length slots.now }
         ensures held { IsHeld tops.now floor.now (slice_index_or (head_stamps slots.now) place None) result }
+        ensures few { length result.clocks ≤ keys_in (slot_in slots.now place).head }
         ensures looks { looks.new ≡ looks.old + keys_in (slot_in slots.now place).head }
     {
         Held::of_slot(tops, floor, &slots[place], looks)
@@ -37,6 +38,7 @@ impl Held {
     // Those of a slot's head.
     fn of_slot<L: Ledger>(tops: &Floor, floor: &Floor, slot: &Slot, looks: &mut Steps<L>) -> Held
         ensures held { IsHeld tops.now floor.now (option_map (λ head. head.emission.stamps) slot.now.head) result }
+        ensures few { length result.clocks ≤ keys_in slot.now.head }
         ensures looks { looks.new ≡ looks.old + keys_in slot.now.head }
     {
         match slot.head() {
@@ -51,6 +53,7 @@ impl Held {
     // Those of some stamps.
     fn among<L: Ledger>(tops: &Floor, floor: &Floor, stamps: &Stamps, looks: &mut Steps<L>) -> Held
         ensures held { IsHeld tops.now floor.now (Some stamps.now) result }
+        ensures few { length result.clocks ≤ length stamps.now }
         ensures looks { looks.new ≡ looks.old + length stamps.now }
     {
         let mut clocks = Floor::new();
@@ -66,32 +69,40 @@ impl Held {
     }
 
     // Whether one of them is greater than the head at a place has it, or there is no head.
-    pub(crate) fn falls_at(&self, slots: &[Slot], place: usize) -> bool
+    pub(crate) fn falls_at<L: Ledger>(
+        &self,
+        slots: &[Slot],
+        place: usize,
+        looks: &mut Steps<L>,
+    ) -> bool
         requires end { IsEnd self.now }
         requires place { place < length slots.now }
-        ensures { result ≡ false → (q : ℕ) → clock_of self.now.clocks q ≤ clock_in (slice_index_or (head_stamps slots.now) place None) q }
+        ensures falls { IsFalse result ↔ NoneFalls (Some self.now.clocks) (slice_index_or (head_stamps slots.now) place None) }
+        ensures looks { looks.new ≤ looks.old + length self.now.clocks }
     {
-        self.falls_with(&slots[place])
+        self.falls_with(&slots[place], looks)
     }
 
     // The same of a slot's head.
-    fn falls_with(&self, slot: &Slot) -> bool
+    fn falls_with<L: Ledger>(&self, slot: &Slot, looks: &mut Steps<L>) -> bool
         requires { IsEnd self.now }
-        ensures { result ≡ false → (q : ℕ) → clock_of self.now.clocks q ≤ clock_in (option_map (λ head. head.emission.stamps) slot.now.head) q }
+        ensures falls { IsFalse result ↔ NoneFalls (Some self.now.clocks) (option_map (λ head. head.emission.stamps) slot.now.head) }
+        ensures looks { looks.new ≤ looks.old + length self.now.clocks }
     {
         match slot.head() {
             None => true,
-            Some(head) => self.falls(&head.stamps),
+            Some(head) => self.falls(&head.stamps, looks),
         }
     }
 
     // Whether one of them is greater than these stamps have it.
-    fn falls(&self, stamps: &Stamps) -> bool
+    fn falls<L: Ledger>(&self, stamps: &Stamps, looks: &mut Steps<L>) -> bool
         requires { IsEnd self.now }
-        ensures { result ≡ false → (q : ℕ) → clock_of self.now.clocks q ≤ clock_of stamps.now q }
+        ensures falls { IsFalse result ↔ NoneFalls (Some self.now.clocks) (Some stamps.now) }
+        ensures looks { looks.new ≤ looks.old + length self.now.clocks }
     {
         for key in 0..self.end {
-            if self.falls_on(ServiceId(key), stamps) {
+            if self.falls_on(ServiceId(key), stamps, looks) {
                 return true;
             }
         }
@@ -99,11 +110,14 @@ impl Held {
     }
 
     // Whether the one of a key is.
-    fn falls_on(&self, key: ServiceId, stamps: &Stamps) -> bool
-        ensures { result ≡ false → clock_of self.now.clocks key ≤ clock_of stamps.now key }
+    fn falls_on<L: Ledger>(&self, key: ServiceId, stamps: &Stamps, looks: &mut Steps<L>) -> bool
+        ensures falls { IsFalse result ↔ (clock_of self.now.clocks key ≤ clock_of stamps.now key) }
+        ensures looks { looks.new + keys_from (key + 1) self.now.clocks ≤ looks.old + keys_from key self.now.clocks }
     {
-        let before = self.clocks.get(key).unwrap_or(Clock(0));
-        let now = stamps.get(key).unwrap_or(Clock(0));
-        now < before
+        let Some(before) = self.clocks.get(key) else {
+            return false;
+        };
+        looks.tick();
+        stamps.get(key).unwrap_or(Clock(0)) < before
     }
 }

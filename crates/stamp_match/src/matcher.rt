@@ -1,9 +1,10 @@
 // What the turn table looks for, kept up to date.
-ghost use Rattle.std.specs.Prelude.{◌≡◌, ◌+◌, ◌-◌, ◌*◌, ◌^◌, ◌<◌, ◌≤◌, true, false, None, [], length, option_map, slice_index_or, slice_set, IfSome, IfNone};
+ghost use Rattle.std.specs.Prelude.{◌≡◌, ◌+◌, ◌-◌, ◌*◌, ◌^◌, ◌<◌, ◌≤◌, ◌⊎◌, true, None, Some, [], length, take, slice_index_or, slice_set, IfSome, IfNone};
 ghost use Rattle.propagation.specs.Stamps.{IsRising};
 ghost use Rattle.service_machine.specs.States.{has_next, advanced, number_of, raise as raised};
 ghost use Rattle.service_machine.specs.Turning.{choice as chosen, head_lag, lagging as first_that_lags, tops as greatest};
 ghost use Rattle.pred_queue.specs.Capped.{capped};
+ghost use Rattle.stamp_match.specs.Falling.{IsEnd, NoneFalls};
 ghost use Rattle.stamp_match.specs.Kept.{IsMatcherOf, IsKept, head_stamps, slot_in};
 ghost use Rattle.stamp_match.specs.Looks.{head_keys, keys_in, named_keys};
 ghost use Rattle.stamp_match.specs.Named.{named, IsAmong};
@@ -16,7 +17,8 @@ use crate::slots::{first_headless, first_waiting, tops};
 use crate::walk::first_lag;
 use pred_queue::Slot;
 use stamp_clock::{Floor, Stamps};
-use std::sync::ledger::Ledger;
+use std::marker::Brand;
+use std::sync::ledger::{Blank, Ledger};
 use svc_value::{ServiceId, Steps};
 
 /// What `choose` finds among at most 16 slots, kept up to date: for each key the greatest clock of the floor and of the heads,
@@ -38,9 +40,31 @@ impl Matcher {
         }
     }
 
-    /// The one of these slots, at most 16, under this floor, found by walking over all clocks of their heads twice. It takes no
-    /// memory.
-    pub fn found<L: Ledger>(slots: &[Slot], floor: &Floor, looks: &mut Steps<L>) -> Matcher
+    /// The one of these slots, at most 16, under this floor, whose keys rise. It walks over all clocks of the heads twice, and
+    /// takes no memory.
+    pub fn of(slots: &[Slot], floor: &Floor) -> Matcher
+        requires few { length slots.now ≤ 16 }
+        requires rising { IsRising 0 floor.now }
+        ensures { IsMatcherOf slots.now floor.now result }
+    {
+        Matcher::counted::<Brand>(slots, floor, Blank::new(1))
+    }
+
+    // The same, with looks that nobody counts.
+    fn counted<L: Ledger>(slots: &[Slot], floor: &Floor, blank: Blank) -> Matcher
+        requires few { length slots.now ≤ 16 }
+        requires rising { IsRising 0 floor.now }
+        requires name { blank.name ≡ L.name }
+        requires parts { blank.parts ≡ L.parts }
+        requires some { 0 < blank.parts }
+        ensures { IsMatcherOf slots.now floor.now result }
+    {
+        let mut looks = Steps::<L>::new(blank);
+        Matcher::found(slots, floor, &mut looks)
+    }
+
+    // The one of these slots under this floor.
+    fn found<L: Ledger>(slots: &[Slot], floor: &Floor, looks: &mut Steps<L>) -> Matcher
         requires few { length slots.now ≤ 16 }
         requires rising { IsRising 0 floor.now }
         ensures matcher { IsMatcherOf slots.now floor.now result }
@@ -168,28 +192,58 @@ impl Matcher {
     }
 
     /// The next value of the slot at `place`, which has one, becomes its head, with one step of `moves`, and the matcher, which
-    /// is that of the slots and the floor, is so again. Where no greatest clock falls, it looks at the clocks of the head that
-    /// goes and of the one that comes alone; else it is found anew. It takes no memory.
+    /// is that of the first `count` slots and the floor, is so again; `place` is one of theirs. No memory is taken.
+    ///
+    /// Where the head that comes has no clock below the one of the head that goes, it takes at most two looks for each clock of
+    /// these two. Else a greatest clock may have fallen, and it takes at most two looks for each clock of all heads.
     pub fn advance<M: Ledger, L: Ledger>(
         &mut self,
         slots: &mut [Slot],
+        count: usize,
         place: usize,
         floor: &Floor,
         moves: &mut Steps<M>,
         looks: &mut Steps<L>,
     )
-        requires place { place < length slots.old }
+        requires count { count ≤ length slots.old }
+        requires place { place < count }
         requires next { has_next (slot_in slots.old place) ≡ true }
-        requires matcher { IsMatcherOf slots.old floor.now self.old }
+        requires matcher { IsMatcherOf (take count slots.old) floor.now self.old }
         ensures advanced { number_of (slot_in slots.old place).head < 2 ^ 64 - 1 → slots.new ≡ slice_set slots.old place (advanced (slot_in slots.old place)) }
         ensures slots { slots.new ≡ slice_set slots.old place (capped (advanced (slot_in slots.old place))) }
-        ensures matcher { IsMatcherOf slots.new floor.now self.new }
+        ensures matcher { IsMatcherOf (take count slots.new) floor.now self.new }
         ensures moves { moves.new ≡ moves.old + 1 }
+        ensures looks { NoneFalls (slice_index_or (head_stamps slots.old) place None) (slice_index_or (head_stamps slots.new) place None) →
+            looks.new ≤ looks.old + 2 * keys_in (slot_in slots.old place).head + 2 * keys_in (slot_in slots.new place).head }
+        ensures most { looks.new ≤ looks.old + 2 * keys_in (slot_in slots.old place).head + 2 * head_keys (take count slots.new) }
     {
-        let held = Held::of(&self.tops, floor, slots, place, looks);
+        let held = Held::of(&self.tops, floor, &slots[..count], place, looks);
         let slot = &mut slots[place];
         slot.advance(moves);
-        if held.falls_at(slots, place) {
+        self.renew(&held, &slots[..count], place, floor, looks);
+    }
+
+    // The head at a place came: the one before it had these clocks with which a greatest one may have fallen.
+    fn renew<L: Ledger>(
+        &mut self,
+        held: &Held,
+        slots: &[Slot],
+        place: usize,
+        floor: &Floor,
+        looks: &mut Steps<L>,
+    )
+        requires place { place < length slots.now }
+        requires few { length slots.now ≤ 16 }
+        requires rising { IsRising 0 floor.now }
+        requires places { length self.old.lagging ≡ 16 }
+        requires tops { IsRising 0 self.old.tops }
+        requires end { IsEnd held.now }
+        ensures matcher { IsMatcherOf slots.now floor.now self.new ⊎ (NoneFalls (Some held.now.clocks) (slice_index_or (head_stamps slots.now) place None) × IsMoved (head_stamps slots.now) place self.old self.new) }
+        ensures looks { NoneFalls (Some held.now.clocks) (slice_index_or (head_stamps slots.now) place None) →
+            looks.new ≤ looks.old + length held.now.clocks + 2 * keys_in (slot_in slots.now place).head }
+        ensures most { looks.new ≤ looks.old + length held.now.clocks + 2 * head_keys slots.now }
+    {
+        if held.falls_at(slots, place, looks) {
             *self = Matcher::found(slots, floor, looks);
         } else {
             self.follow(slots, place, looks);
