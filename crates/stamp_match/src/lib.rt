@@ -15,4 +15,6 @@ pub use matcher::Matcher;
 pub use table::choose;
 
 #[cfg(test)]
+mod sequences;
+#[cfg(test)]
 mod tests;

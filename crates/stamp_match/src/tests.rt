@@ -1,7 +1,9 @@
 // The turn table on two slots. The first depends on the services 0 and 1, the second on 0 and 2.
-ghost use Rattle.std.specs.Prelude.{◌≡◌, ◌<◌};
+ghost use Rattle.std.specs.Prelude.{◌≡◌, ◌<◌, ◌≤◌, IfOk, length};
+ghost use Rattle.propagation.specs.Stamps.{IsRising};
+ghost use Rattle.stamp_match.specs.Kept.{IsMatcherOf};
 
-use crate::{Choice, choose};
+use crate::{Choice, Matcher, choose};
 use pred_queue::Slot;
 use stamp_clock::{Floor, Stamps};
 use std::alloc::Global;
@@ -21,8 +23,30 @@ fn choose_with<L: Ledger>(slots: &[Slot], floor: &Floor, due: bool, blank: Blank
     choose(slots, floor, due, &mut looks)
 }
 
-fn choice_of(slots: &[Slot], floor: &Floor, due: bool) -> Choice {
+pub(crate) fn choice_of(slots: &[Slot], floor: &Floor, due: bool) -> Choice {
     choose_with::<Brand>(slots, floor, due, Blank::new(1))
+}
+
+fn kept_choice_with<L: Ledger>(
+    matcher: &Matcher,
+    slots: &[Slot],
+    floor: &Floor,
+    due: bool,
+    blank: Blank,
+) -> Choice
+    requires name { blank.name ≡ L.name }
+    requires parts { blank.parts ≡ L.parts }
+    requires some { 0 < blank.parts }
+    requires matcher { IsMatcherOf slots.now floor.now matcher.now }
+{
+    let mut looks = Steps::<L>::new(blank);
+    matcher.choice(slots, floor, due, &mut looks)
+}
+
+pub(crate) fn kept_choice_of(matcher: &Matcher, slots: &[Slot], floor: &Floor, due: bool) -> Choice
+    requires { IsMatcherOf slots.now floor.now matcher.now }
+{
+    kept_choice_with::<Brand>(matcher, slots, floor, due, Blank::new(1))
 }
 
 fn advance_with<M: Ledger>(slot: &mut Slot, blank: Blank)
@@ -43,13 +67,13 @@ fn advance(slot: &mut Slot) {
 /// What a slot has: values under an epoch, each with the clocks of the service 0 and of the sender, and whether the first
 /// of them is the head.
 #[derive(Drop)]
-struct Given<'a> {
+pub(crate) struct Given<'a> {
     epoch: u32,
     values: &'a [(u32, u32)],
     has_head: bool,
 }
 
-fn slot_of(alloc: Global, sender: u16, given: &Given<'_>) -> Result<Slot, Fail>
+pub(crate) fn slot_of(alloc: Global, sender: u16, given: &Given<'_>) -> Result<Slot, Fail>
     requires some { 0 < sender }
     requires below { sender < 64 }
 {
@@ -76,7 +100,9 @@ fn slot_of(alloc: Global, sender: u16, given: &Given<'_>) -> Result<Slot, Fail>
     Ok(slot)
 }
 
-fn floor_of(alloc: Global, clock: u32) -> Result<Floor, OutOfMemory> {
+fn floor_of(alloc: Global, clock: u32) -> Result<Floor, OutOfMemory>
+    ensures { IfOk result (λ floor. IsRising 0 floor) }
+{
     let mut floor = Floor::new();
     if clock > 0 {
         floor.raise(&Stamps::one(alloc, ServiceId(0), Clock(clock))?)?;
@@ -107,6 +133,13 @@ fn run(rt: &impl Abort, alloc: Global, case: &Case<'_>) -> Result<(), Fail> {
         "{}",
         case.name
     );
+    let matcher = Matcher::of(&slots, &floor);
+    assert_eq!(rt;
+        kept_choice_of(&matcher, &slots, &floor, case.due),
+        case.choice,
+        "{}, kept",
+        case.name
+    );
     Ok(())
 }
 
@@ -118,7 +151,7 @@ fn head(values: &[(u32, u32)]) -> Given<'_> {
     }
 }
 
-fn waits(epoch: u32, values: &[(u32, u32)]) -> Given<'_> {
+pub(crate) fn waits(epoch: u32, values: &[(u32, u32)]) -> Given<'_> {
     Given {
         epoch,
         values,
@@ -126,7 +159,7 @@ fn waits(epoch: u32, values: &[(u32, u32)]) -> Given<'_> {
     }
 }
 
-fn lags(slot: usize) -> Choice {
+pub(crate) fn lags(slot: usize) -> Choice {
     Choice::Lags {
         slot,
         key: ServiceId(0),
