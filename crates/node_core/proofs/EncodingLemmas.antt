@@ -4,6 +4,8 @@ use Rattle.std.proofs.lemmas.List.{length-append}
 use Rattle.svc_value.specs.Layout.{layout}
 use Rattle.wire_frame.specs.declared.frame.Announced.{Announced}
 use Rattle.wire_frame.specs.declared.frame.Delta.{Delta}
+use Rattle.wire_frame.specs.declared.place_clock.PlaceClock.{PlaceClock}
+use Rattle.svc_value.specs.declared.value.Value.{Value}
 use Rattle.wire_frame.specs.declared.frame.Frame.TheVariants.{Sources, Changed}
 use Rattle.wire_frame.specs.Frames.{FrameOf, IsDelta, frame_bytes, half, place_clock}
 use Rattle.wire_frame.proofs.Rising.{places_fit}
@@ -16,14 +18,14 @@ flat_length f size each (x ∷ xs) =
     let rest : length (flat_map f xs) ≡ size * length xs = flat_length f size each xs in
     grind (arith, each x, length-append (f x) (flat_map f xs))
 
-pub announced_length : (a : Announced) → length (frame_bytes (Sources a)) ≡ 6 + 2 * length a.keys
-announced_length a = omega (arith, flat_length half 2 (λ x. refl) a.keys)
+pub sources_length : (epoch : ℕ) (keys : List ℕ) → length (frame_bytes (Sources (record { epoch = epoch; keys = keys }))) ≡ 6 + 2 * length keys
+sources_length epoch keys = omega (arith, flat_length half 2 (λ x. refl) keys)
 
-pub delta_length : (d : Delta) → length (frame_bytes (Changed d)) ≡ 6 + length (layout d.value) + 5 * length d.clocks
-delta_length d = omega (arith, flat_length place_clock 5 (λ x. refl) d.clocks, length-append (layout d.value) (length d.clocks ∷ flat_map place_clock d.clocks))
+pub delta_length : (epoch : ℕ) (value : Value) (clocks : List PlaceClock) → length (frame_bytes (Changed (record { epoch = epoch; value = value; clocks = clocks }))) ≡ 6 + length (layout value) + 5 * length clocks
+delta_length epoch value clocks = omega (arith, flat_length place_clock 5 (λ x. refl) clocks, length-append (layout value) (length clocks ∷ flat_map place_clock clocks))
 
-pub few_clocks : (d : Delta) → IsDelta d → length d.clocks ≤ 64
-few_clocks d is = omega (arith, places_fit 0 d.clocks (omega arith) is.rise is.below)
+pub few_clocks : (epoch : ℕ) (value : Value) (clocks : List PlaceClock) → IsDelta (record { epoch = epoch; value = value; clocks = clocks }) → length clocks ≤ 64
+few_clocks epoch value clocks is = omega (arith, places_fit 0 clocks (omega arith) is.rise is.below)
 
 -- ---- another epoch
 

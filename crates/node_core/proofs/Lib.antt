@@ -26,4 +26,4 @@ pub mod TakeLemmas
 pub mod HeardLemmas
 pub mod RankLemmas
 pub mod TakenLemmas
-pub mod SampleLemmas
+pub mod MatcherLemmas

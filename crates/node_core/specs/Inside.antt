@@ -1,6 +1,7 @@
 -- How the fields of a node are the service that contracts see.
-use Rattle.std.specs.Prelude.{◌≤◌, drop, length}
+use Rattle.std.specs.Prelude.{◌≤◌, drop, take, length}
 use Rattle.propagation.specs.Logs.{stamps_of}
+use Rattle.stamp_match.specs.Kept.{IsMatcherOf}
 use Rattle.node_core.specs.declared.node.Node.TheInside.{Inside}
 use Rattle.node_core.specs.Coming.{coming}
 use Rattle.node_core.specs.View.{Service, told_all, AreInOrder, AreCounted, AreWithin, IsDefined}
@@ -36,3 +37,4 @@ pub record IsNode (n : Inside) : Type 0 where
   pub in_order : AreInOrder n.edges n.slots.items
   pub within_layout : AreWithin n.edges n.readers.present n.last
   pub counted : AreCounted n.journal.entries n.slots.items
+  pub matched : IsMatcherOf (take (length n.edges) n.slots.items) n.floor n.matcher

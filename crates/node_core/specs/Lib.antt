@@ -13,4 +13,3 @@ pub mod Lives
 pub mod Ranks
 pub mod Taking
 pub mod Hearing
-pub mod Samples

@@ -1,25 +1,27 @@
 // What a service computes.
-ghost use Rattle.std.specs.Prelude.{◌≡◌, ◌≤◌, ◌<◌, ◌++◌, ◌∷◌, [], map, take, drop, length, IfOk};
-ghost use Rattle.service_machine.specs.States.{raise, raise_all};
+ghost use Rattle.std.specs.Prelude.{◌≡◌, ◌≤◌, ◌<◌, ◌++◌, ◌∷◌, [], map, take, drop, length, IfOk, OnOk};
+ghost use Rattle.service_machine.specs.States.{raise_all};
 ghost use Rattle.service_machine.specs.Turning.{heads};
 ghost use Rattle.service_machine.specs.Steps.{picks};
 ghost use Rattle.svc_graph.specs.History.{meaning_of};
 ghost use Rattle.node_core.specs.Computing.{emission_over};
 
+use crate::scratch::Scratch;
 use crate::{Computation, Picks};
 use pred_queue::{Emission, Slot};
-use stamp_clock::{Floor, Stamps};
+use stamp_clock::Stamps;
 use std::alloc::Global;
+use std::mem;
 use svc_expr::eval;
 use svc_graph::Definition;
 use svc_value::{Clock, OutOfMemory, ServiceId, Value};
 
-// The values of the heads.
+// The values of the heads, in place of those in the list.
 #[tactic(auto, using(crate::proofs::HeadLemmas::values_some, crate::proofs::HeadLemmas::values_none, crate::proofs::HeadLemmas::values_done))]
-fn values_of(alloc: Global, slots: &[Slot]) -> Result<Vec<Value>, OutOfMemory>
-    ensures { IfOk result (λ values. values.items ≡ map (λ head. head.value) (heads slots.now)) }
+fn values_of(slots: &[Slot], values: &mut Vec<Value>) -> Result<(), OutOfMemory>
+    ensures { OnOk result (values.new.items ≡ map (λ head. head.value) (heads slots.now)) }
 {
-    let mut values = Vec::with_capacity(alloc, slots.len())?;
+    values.clear();
     for i in 0..slots.len() {
         let slot = &slots[i];
         let Some(head) = slot.head() else {
@@ -27,18 +29,23 @@ fn values_of(alloc: Global, slots: &[Slot]) -> Result<Vec<Value>, OutOfMemory>
         };
         values.push(head.value.copy()?)?;
     }
-    Ok(values)
+    Ok(())
 }
 
-// The meaning of a definition over the values of the heads.
-fn value_by(alloc: Global, by: &Definition, slots: &[Slot]) -> Result<Value, OutOfMemory>
+// The meaning of a definition over the values of the heads, which are put into the list.
+fn value_by(
+    alloc: Global,
+    by: &Definition,
+    slots: &[Slot],
+    values: &mut Vec<Value>,
+) -> Result<Value, OutOfMemory>
     requires few { length slots.now ≤ 16 }
     ensures { IfOk result (λ value. value ≡ meaning_of by.now (map (λ head. head.value) (heads slots.now))) }
 {
     match by {
         Definition::Input(value) => value.copy(),
         Definition::Derived(formula) => {
-            let values = values_of(alloc, slots)?;
+            values_of(slots, values)?;
             let count = formula.fixed.len().min(values.len());
             let (given, members) = values.as_slice().split_at(count);
             eval(alloc, &formula.expr, given, members)
@@ -46,21 +53,29 @@ fn value_by(alloc: Global, by: &Definition, slots: &[Slot]) -> Result<Value, Out
     }
 }
 
-// The union of the stamps of the heads with the own clock.
+// The union of the stamps of the heads with the own clock, in memory that is used again.
 #[tactic(auto, using(crate::proofs::HeadLemmas::union_some, crate::proofs::HeadLemmas::union_none, crate::proofs::HeadLemmas::union_done))]
-fn union_of(alloc: Global, id: ServiceId, own: Clock, slots: &[Slot]) -> Result<Stamps, OutOfMemory>
+fn union_of(
+    id: ServiceId,
+    own: Clock,
+    slots: &[Slot],
+    scratch: &mut Scratch,
+) -> Result<Stamps, OutOfMemory>
     requires below { id < 64 }
     requires positive { 0 < own }
     ensures { IfOk result (λ stamps. stamps ≡ raise_all ((id, own) ∷ []) (heads slots.now)) }
 {
-    let mut stamps = Stamps::one(alloc, id, own)?;
+    let mut joined = scratch.take_joined();
+    let mut stamps = Stamps::one_in(scratch.take_stamps(), id, own)?;
     for i in 0..slots.len() {
         let slot = &slots[i];
         let Some(head) = slot.head() else {
             continue;
         };
-        stamps = stamps.join(&head.stamps)?;
+        let both = stamps.join_in(&head.stamps, joined)?;
+        joined = mem::replace(&mut stamps, both).into_clocks();
     }
+    scratch.keep_joined(joined);
     Ok(stamps)
 }
 
@@ -85,6 +100,7 @@ pub(crate) fn emission_over(
     own: Clock,
     by: &Definition,
     slots: &[Slot],
+    scratch: &mut Scratch,
 ) -> Result<Emission, OutOfMemory>
     requires below { id < 64 }
     requires positive { 0 < own }
@@ -92,8 +108,8 @@ pub(crate) fn emission_over(
     ensures emission { IfOk result (λ m. m ≡ emission_over id own by.now slots.now) }
     ensures some { IfOk result (λ m. 0 < length m.stamps) }
 {
-    let value = value_by(alloc, by, slots)?;
-    let stamps = union_of(alloc, id, own, slots)?;
+    let value = value_by(alloc, by, slots, &mut scratch.values)?;
+    let stamps = union_of(id, own, slots, scratch)?;
     Ok(Emission { value, stamps })
 }
 
@@ -115,11 +131,4 @@ pub(crate) fn computation_of(
         stamps,
         picks,
     })
-}
-
-// The floor takes the stamps of an emission.
-pub(crate) fn raise_by(floor: &mut Floor, emission: &Emission)
-    ensures { floor.new ≡ raise floor.old emission.now.stamps }
-{
-    let _ = floor.raise(&emission.stamps);
 }

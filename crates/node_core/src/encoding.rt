@@ -6,8 +6,8 @@ ghost use Rattle.wire_frame.specs.Frames.{IsAnnounced, IsDelta, IsWithinLayout, 
 ghost use Rattle.node_core.specs.Mail.{with_epoch};
 
 use std::alloc::Global;
-use svc_value::{Clock, OutOfMemory, Value};
-use wire_frame::{Announced, Delta, Frame, write_frame};
+use svc_value::{Clock, OutOfMemory, ServiceId, Value};
+use wire_frame::{Frame, PlaceClock, write_frame, write_sources, write_value};
 
 // The number of bytes of a value.
 fn value_size(value: &Value) -> usize
@@ -22,21 +22,20 @@ fn value_size(value: &Value) -> usize
 }
 
 // The number of bytes of a frame of keys.
-#[tactic(auto, using(crate::proofs::EncodingLemmas::announced_length))]
-fn announced_size(announced: &Announced) -> usize
-    requires { IsAnnounced announced.now }
-    ensures { result ≡ length (frame_bytes (Sources announced.now)) }
+fn sources_size(epoch: Clock, keys: &[ServiceId]) -> usize
+    requires { IsAnnounced (record { epoch = epoch; keys = keys.now }) }
+    ensures { result ≡ length (frame_bytes (Sources (record { epoch = epoch; keys = keys.now }))) }
 {
-    6 + 2 * announced.keys.len()
+    6 + 2 * keys.len()
 }
 
 // The number of bytes of a frame with a value.
-#[tactic(auto, using(crate::proofs::EncodingLemmas::delta_length, crate::proofs::EncodingLemmas::few_clocks))]
-fn delta_size(delta: &Delta) -> usize
-    requires { IsDelta delta.now }
-    ensures { result ≡ length (frame_bytes (Changed delta.now)) }
+#[tactic(auto, using(crate::proofs::EncodingLemmas::few_clocks))]
+fn delta_size(epoch: Clock, value: &Value, clocks: &[PlaceClock]) -> usize
+    requires { IsDelta (record { epoch = epoch; value = value.now; clocks = clocks.now }) }
+    ensures { result ≡ length (frame_bytes (Changed (record { epoch = epoch; value = value.now; clocks = clocks.now }))) }
 {
-    6 + value_size(&delta.value) + 5 * delta.clocks.len()
+    6 + value_size(value) + 5 * clocks.len()
 }
 
 // The bytes of a frame, in a list of `size` bytes, if it has no more.
@@ -50,21 +49,32 @@ pub(crate) fn bytes_of(alloc: Global, frame: &Frame, size: usize) -> Result<Vec<
 }
 
 // The bytes of a frame of keys.
-pub(crate) fn sources_bytes(alloc: Global, announced: Announced) -> Result<Vec<u8>, OutOfMemory>
-    requires { IsAnnounced announced }
-    ensures { IfOk result (λ bytes. FrameOf (Sources announced) bytes.items) }
+pub(crate) fn sources_bytes(
+    alloc: Global,
+    epoch: Clock,
+    keys: &[ServiceId],
+) -> Result<Vec<u8>, OutOfMemory>
+    requires { IsAnnounced (record { epoch = epoch; keys = keys.now }) }
+    ensures { IfOk result (λ bytes. FrameOf (Sources (record { epoch = epoch; keys = keys.now })) bytes.items) }
 {
-    let size = announced_size(&announced);
-    bytes_of(alloc, &Frame::Sources(announced), size)
+    let mut bytes = Vec::with_capacity(alloc, sources_size(epoch, keys))?;
+    write_sources(epoch, keys, &mut bytes)?;
+    Ok(bytes)
 }
 
 // The bytes of a frame with a value.
-pub(crate) fn value_bytes(alloc: Global, delta: Delta) -> Result<Vec<u8>, OutOfMemory>
-    requires { IsDelta delta }
-    ensures { IfOk result (λ bytes. FrameOf (Changed delta) bytes.items) }
+pub(crate) fn value_bytes(
+    alloc: Global,
+    epoch: Clock,
+    value: &Value,
+    clocks: &[PlaceClock],
+) -> Result<Vec<u8>, OutOfMemory>
+    requires { IsDelta (record { epoch = epoch; value = value.now; clocks = clocks.now }) }
+    ensures { IfOk result (λ bytes. FrameOf (Changed (record { epoch = epoch; value = value.now; clocks = clocks.now })) bytes.items) }
 {
-    let size = delta_size(&delta);
-    bytes_of(alloc, &Frame::Changed(delta), size)
+    let mut bytes = Vec::with_capacity(alloc, delta_size(epoch, value, clocks))?;
+    write_value(epoch, value, clocks, &mut bytes)?;
+    Ok(bytes)
 }
 
 // The bytes of a frame under another epoch.

@@ -61,19 +61,20 @@ impl Journal {
         Ok(())
     }
 
-    // An entry and the frames that are sent after it, for which there is room.
+    // An entry and the frames that are sent after it, for which there is room; the list of the frames comes back empty.
     #[tactic(auto, using(crate::proofs::PostLemmas::length_posted))]
-    pub(crate) fn record(&mut self, first: Entry, mail: Mail)
+    pub(crate) fn record(&mut self, first: Entry, mut mail: Mail) -> Mail
         requires entries { length mail < self.old.entry_room }
         requires posts { length mail ≤ self.old.post_room }
         requires first { (q : ℕ) → sent_to q (first ∷ []) ≡ [] }
         ensures entries { self.new.entries ≡ self.old.entries ++ first ∷ sent_entries mail }
         ensures outbox { self.new.outbox ≡ self.old.outbox ++ mail }
         ensures handed { self.new.handed ≡ self.old.handed }
+        ensures left { result ≡ [] }
     {
         self.log.push_reserved(first);
-        let Mail { posts, .. } = mail;
-        put_all(&mut self.log, &mut self.outbox, posts);
+        put_all(&mut self.log, &mut self.outbox, &mut mail.posts);
+        mail
     }
 
     // The entries, oldest first.

@@ -17,11 +17,10 @@ mod reading;
 mod refusing;
 mod reports;
 mod rewiring;
+mod scratch;
 mod slots;
 mod telling;
 mod testing;
-#[cfg(test)]
-mod tests;
 mod turned;
 mod welcome;
 

@@ -5,6 +5,7 @@ ghost use Rattle.node_core.specs.Mail.{Adds, with_epoch};
 
 use crate::encoding::{bytes_of, under};
 use std::alloc::Global;
+use std::collections::VecDeque;
 use std::marker::Model;
 use svc_value::{Bytes, Clock, OutOfMemory, ServiceId};
 use wire_frame::Frame;
@@ -21,7 +22,7 @@ pub(crate) struct Post {
 #[derive(Drop)]
 pub(crate) struct Mail {
     alloc: Global,
-    pub(crate) posts: Vec<Post>,
+    pub(crate) posts: VecDeque<Post>,
 }
 
 impl Model for Mail {
@@ -43,18 +44,16 @@ impl Mail {
     {
         Mail {
             alloc,
-            posts: Vec::new(alloc),
+            posts: VecDeque::new(alloc),
         }
     }
 
-    // No frames yet, and room for so many.
-    pub(crate) fn with_room(alloc: Global, count: usize) -> Result<Mail, OutOfMemory>
-        ensures { IfOk result (λ mail. mail ≡ []) }
+    // No frames, in the memory of these.
+    pub(crate) fn emptied(mut self) -> Mail
+        ensures { result ≡ [] }
     {
-        Ok(Mail {
-            alloc,
-            posts: Vec::with_capacity(alloc, count)?,
-        })
+        self.posts.clear();
+        self
     }
 
     // One frame more, to a service.
@@ -64,7 +63,7 @@ impl Mail {
     {
         let waiting = Bytes::from_slice(self.alloc, bytes.as_slice())?;
         self.posts.reserve(1)?;
-        self.posts.push_reserved(Post {
+        self.posts.push_back_reserved(Post {
             to,
             logged: Bytes::from_vec(bytes),
             waiting,

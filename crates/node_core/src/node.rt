@@ -13,10 +13,12 @@ mod turning;
 
 use crate::Entry;
 use crate::journal::Journal;
+use crate::scratch::Scratch;
 use crate::slots::{all_idle, begin_all};
 use pred_queue::{Emission, Slot};
 use rewire_core::{Edges, Readers};
 use stamp_clock::{Floor, Stamps};
+use stamp_match::Matcher;
 use std::alloc::Global;
 use std::marker::Model;
 use svc_graph::{Change, Definition, Roster};
@@ -37,8 +39,10 @@ pub struct Node {
     slots: Vec<Slot>,
     readers: Readers,
     floor: Floor,
+    matcher: Matcher,
     last: Option<Emission>,
     journal: Journal,
+    scratch: Scratch,
 }
 
 impl Model for Node {
@@ -80,8 +84,10 @@ impl Node {
             slots: Vec::new(alloc),
             readers: Readers::new(alloc),
             floor: Floor::new(),
+            matcher: Matcher::new(),
             last: None,
             journal: Journal::new(alloc),
+            scratch: Scratch::new(alloc),
         }
     }
 

@@ -21,21 +21,25 @@ pub(crate) fn take_out(outbox: &mut VecDeque<(ServiceId, Bytes)>, to: ServiceId)
     Some(frame)
 }
 
-// Puts these frames behind the others in the log and in the outbox, which have room for them.
+// Puts these frames behind the others in the log and in the outbox, which have room for them, and none is left.
 #[tactic(auto, using(crate::proofs::PostLemmas::posted_snoc, crate::proofs::PostLemmas::entered_snoc))]
 pub(crate) fn put_all(
     log: &mut Vec<Entry>,
     outbox: &mut VecDeque<(ServiceId, Bytes)>,
-    posts: Vec<Post>,
+    posts: &mut VecDeque<Post>,
 )
-    requires log_room { vec_len log.old + length posts.items ≤ vec_capacity log.old }
-    requires room { deque_len outbox.old + length posts.items ≤ deque_capacity outbox.old }
-    ensures entries { log.new.items ≡ log.old.items ++ entered posts.items }
-    ensures items { outbox.new.items ≡ outbox.old.items ++ posted posts.items }
-    ensures len { deque_len outbox.new ≡ deque_len outbox.old + length posts.items }
+    requires log_room { vec_len log.old + length posts.old.items ≤ vec_capacity log.old }
+    requires room { deque_len outbox.old + length posts.old.items ≤ deque_capacity outbox.old }
+    ensures entries { log.new.items ≡ log.old.items ++ entered posts.old.items }
+    ensures items { outbox.new.items ≡ outbox.old.items ++ posted posts.old.items }
+    ensures left { posts.new.items ≡ [] }
+    ensures len { deque_len outbox.new ≡ deque_len outbox.old + length posts.old.items }
     ensures capacity { deque_capacity outbox.new ≡ deque_capacity outbox.old }
 {
-    for post in posts {
+    for _ in 0..posts.len() {
+        let Some(post) = posts.pop_front() else {
+            return;
+        };
         let Post {
             to,
             logged,

@@ -7,7 +7,7 @@ ghost use Rattle.wire_frame.specs.Frames.{pairs};
 use stamp_clock::Stamps;
 use std::alloc::Global;
 use svc_value::{Clock, Ids, OutOfMemory};
-use wire_frame::{PlaceClock, PlaceClocks};
+use wire_frame::PlaceClock;
 
 // The keys of stamps.
 pub(crate) fn keys_of(alloc: Global, stamps: &Stamps) -> Result<Ids, OutOfMemory>
@@ -21,13 +21,16 @@ pub(crate) fn keys_of(alloc: Global, stamps: &Stamps) -> Result<Ids, OutOfMemory
     Ok(Ids::from_vec(ids))
 }
 
-// Every place with its clock.
+// Every place with its clock, in place of those in the list.
 #[tactic(auto, using(crate::proofs::StampsLemmas::few_stamps, crate::proofs::StampsLemmas::places_next, crate::proofs::StampsLemmas::places_done))]
-pub(crate) fn all_places_of(alloc: Global, stamps: &Stamps) -> Result<PlaceClocks, OutOfMemory>
-    ensures places { IfOk result (λ clocks. pairs clocks ≡ all_places 0 stamps.now) }
+pub(crate) fn all_places_of(
+    stamps: &Stamps,
+    clocks: &mut Vec<PlaceClock>,
+) -> Result<(), OutOfMemory>
+    ensures places { OnOk result (pairs clocks.new.items ≡ all_places 0 stamps.now) }
     ensures stamps { AreStamps stamps.now }
 {
-    let mut clocks = Vec::with_capacity(alloc, stamps.len())?;
+    clocks.clear();
     for i in 0..stamps.len() {
         let place = i as u8;
         clocks.push(PlaceClock {
@@ -35,7 +38,7 @@ pub(crate) fn all_places_of(alloc: Global, stamps: &Stamps) -> Result<PlaceClock
             clock: stamps.clock_at(i),
         })?;
     }
-    Ok(PlaceClocks::from_vec(clocks))
+    Ok(())
 }
 
 // Whether the two have the same keys.
@@ -74,21 +77,21 @@ fn push_change(
     Ok(())
 }
 
-// The places whose clock is another one, with the new clock.
+// The places whose clock is another one, with the new clock, in place of those in the list.
 #[tactic(auto, using(crate::proofs::StampsLemmas::few_stamps, crate::proofs::StampsLemmas::same_length, crate::proofs::StampsLemmas::change_next, crate::proofs::StampsLemmas::changes_done))]
 pub(crate) fn changes_of(
-    alloc: Global,
     old: &Stamps,
     new: &Stamps,
-) -> Result<PlaceClocks, OutOfMemory>
+    clocks: &mut Vec<PlaceClock>,
+) -> Result<(), OutOfMemory>
     requires { have_same_keys old.now new.now ≡ true }
-    ensures places { IfOk result (λ clocks. pairs clocks ≡ changed_places 0 old.now new.now) }
+    ensures places { OnOk result (pairs clocks.new.items ≡ changed_places 0 old.now new.now) }
     ensures stamps { AreStamps new.now }
 {
-    let mut clocks = Vec::with_capacity(alloc, new.len())?;
+    clocks.clear();
     for i in 0..new.len() {
         let place = i as u8;
-        push_change(&mut clocks, place, old.clock_at(i), new.clock_at(i))?;
+        push_change(clocks, place, old.clock_at(i), new.clock_at(i))?;
     }
-    Ok(PlaceClocks::from_vec(clocks))
+    Ok(())
 }

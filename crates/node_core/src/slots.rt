@@ -1,13 +1,19 @@
 // The slots of a node.
-ghost use Rattle.std.specs.Prelude.{◌≡◌, ◌≤◌, ◌↔◌, ℕ, [], length, take, IsTrue};
+ghost use Rattle.std.specs.Prelude.{◌≡◌, ◌+◌, ◌<◌, ◌≤◌, ◌↔◌, ℕ, [], true, length, take, slice_set, IsTrue};
+ghost use Rattle.pred_queue.specs.Capped.{capped};
 ghost use Rattle.propagation.specs.Words.{Apart};
-ghost use Rattle.service_machine.specs.States.{slot_at};
+ghost use Rattle.service_machine.specs.States.{advanced, has_next, raise, slot_at};
 ghost use Rattle.service_machine.specs.Openings.{first_slots};
 ghost use Rattle.service_machine.specs.Turning.{slots_of};
+ghost use Rattle.stamp_match.specs.Kept.{IsMatcherOf, slot_in};
 ghost use Rattle.node_core.specs.View.{senders, AreInOrder};
 
-use pred_queue::Slot;
+use pred_queue::{Emission, Slot};
 use rewire_core::Edges;
+use stamp_clock::Floor;
+use stamp_match::Matcher;
+use std::sync::ledger::Ledger;
+use svc_value::Steps;
 
 // A leg begins: each head is the one with the number 0.
 #[tactic(auto, using(crate::proofs::SlotLemmas::begun_next))]
@@ -42,4 +48,40 @@ pub(crate) fn inputs_of<'a>(edges: &Edges, slots: &'a [Slot]) -> &'a [Slot]
     ensures len { length result.now ≡ length edges.now }
 {
     &slots[..edges.len()]
+}
+
+// The next value of the slot at a place becomes its head; the matcher is that of the first `count` slots, as before.
+pub(crate) fn advance_at<M: Ledger, L: Ledger>(
+    slots: &mut Vec<Slot>,
+    count: usize,
+    place: usize,
+    matcher: &mut Matcher,
+    floor: &Floor,
+    moves: &mut Steps<M>,
+    looks: &mut Steps<L>,
+)
+    requires count { count ≤ length slots.old.items }
+    requires place { place < count }
+    requires next { has_next (slot_in slots.old.items place) ≡ true }
+    requires matcher { IsMatcherOf (take count slots.old.items) floor.now matcher.old }
+    ensures slots { slots.new.items ≡ slice_set slots.old.items place (capped (advanced (slot_in slots.old.items place))) }
+    ensures matcher { IsMatcherOf (take count slots.new.items) floor.now matcher.new }
+    ensures moves { moves.new ≡ moves.old + 1 }
+{
+    matcher.advance(slots.as_mut_slice(), count, place, floor, moves, looks);
+}
+
+// The floor takes the stamps of an emission; the matcher is that of the slots and the floor, as before.
+pub(crate) fn raise_by<L: Ledger>(
+    matcher: &mut Matcher,
+    floor: &mut Floor,
+    emission: &Emission,
+    slots: &[Slot],
+    looks: &mut Steps<L>,
+)
+    requires { IsMatcherOf slots.now floor.old matcher.old }
+    ensures matcher { IsMatcherOf slots.now floor.new matcher.new }
+    ensures raised { floor.new ≡ raise floor.old emission.now.stamps }
+{
+    matcher.raise(floor, &emission.stamps, slots, looks);
 }

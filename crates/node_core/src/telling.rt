@@ -11,29 +11,32 @@ ghost use Rattle.node_core.specs.View.{told_all};
 use crate::encoding::{sources_bytes, value_bytes};
 use crate::mail::Mail;
 use crate::reports::{all_places_of, changes_of, keys_of, same_keys};
+use crate::scratch::Scratch;
 use pred_queue::Emission;
 use stamp_clock::Stamps;
 use std::alloc::Global;
-use svc_value::{Clock, OutOfMemory, ServiceId};
-use wire_frame::{Announced, Delta};
+use svc_value::{Clock, OutOfMemory, ServiceId, Value};
+use wire_frame::PlaceClock;
 
-// A value to each reader under its epoch. The bytes are made once, under the epoch of the last one, to which they go.
+// A value to each reader under its epoch, in a list of frames that is empty. The bytes are made once, under the epoch of the
+// last one, to which they go.
 fn mail_values(
     alloc: Global,
     readers: &[(ServiceId, Clock)],
-    mut delta: Delta,
+    value: &Value,
+    clocks: &[PlaceClock],
+    mut mail: Mail,
 ) -> Result<Mail, OutOfMemory>
     requires epochs { All (λ reader. 1 ≤ reader.1) readers.now }
-    requires layout { IsDelta delta }
-    ensures { IfOk result (λ mail. Says mail (each_told readers.now (value_letter delta))) }
+    requires layout { IsDelta (record { epoch = 1; value = value.now; clocks = clocks.now }) }
+    requires empty { mail ≡ [] }
+    ensures { IfOk result (λ mail. Says mail (each_told readers.now (value_letter (record { epoch = 1; value = value.now; clocks = clocks.now })))) }
 {
     let Some(last) = readers.len().checked_sub(1) else {
-        return Ok(Mail::new(alloc));
+        return Ok(mail);
     };
     let end = readers[last];
-    delta.epoch = end.1;
-    let value = value_bytes(alloc, delta)?;
-    let mut mail = Mail::with_room(alloc, readers.len())?;
+    let value = value_bytes(alloc, end.1, value, clocks)?;
     for i in 0..last {
         let reader = readers[i];
         mail.add_under(reader.0, value.as_slice(), reader.1)?;
@@ -42,27 +45,28 @@ fn mail_values(
     Ok(mail)
 }
 
-// Keys and a value to each reader under its epoch. The bytes are made once, under the epoch of the last one, to which they go.
+// Keys and a value to each reader under its epoch, in a list of frames that is empty. The bytes are made once, under the epoch
+// of the last one, to which they go.
 fn mail_in_full(
     alloc: Global,
     readers: &[(ServiceId, Clock)],
-    mut announced: Announced,
-    mut delta: Delta,
+    keys: &[ServiceId],
+    value: &Value,
+    clocks: &[PlaceClock],
+    mut mail: Mail,
 ) -> Result<Mail, OutOfMemory>
     requires epochs { All (λ reader. 1 ≤ reader.1) readers.now }
-    requires keys { IsAnnounced announced }
-    requires layout { IsDelta delta }
-    ensures { IfOk result (λ mail. Says mail (each_told readers.now (full_letter announced delta))) }
+    requires keys { IsAnnounced (record { epoch = 1; keys = keys.now }) }
+    requires layout { IsDelta (record { epoch = 1; value = value.now; clocks = clocks.now }) }
+    requires empty { mail ≡ [] }
+    ensures { IfOk result (λ mail. Says mail (each_told readers.now (full_letter (record { epoch = 1; keys = keys.now }) (record { epoch = 1; value = value.now; clocks = clocks.now })))) }
 {
     let Some(last) = readers.len().checked_sub(1) else {
-        return Ok(Mail::new(alloc));
+        return Ok(mail);
     };
     let end = readers[last];
-    announced.epoch = end.1;
-    delta.epoch = end.1;
-    let sources = sources_bytes(alloc, announced)?;
-    let value = value_bytes(alloc, delta)?;
-    let mut mail = Mail::with_room(alloc, readers.len().saturating_mul(2))?;
+    let sources = sources_bytes(alloc, end.1, keys)?;
+    let value = value_bytes(alloc, end.1, value, clocks)?;
     for i in 0..last {
         let reader = readers[i];
         mail.add_under(reader.0, sources.as_slice(), reader.1)?;
@@ -78,22 +82,25 @@ pub(crate) fn tell_in_full(
     alloc: Global,
     readers: &[(ServiceId, Clock)],
     emission: &Emission,
+    scratch: &mut Scratch,
 ) -> Result<Mail, OutOfMemory>
     requires epochs { All (λ reader. 1 ≤ reader.1) readers.now }
     requires some { 0 < length emission.now.stamps }
     ensures { IfOk result (λ mail. Says mail (each_told readers.now (λ epoch. in_full epoch emission.now))) }
 {
     let stamps = &emission.stamps;
-    let announced = Announced {
-        epoch: Clock(1),
-        keys: keys_of(alloc, stamps)?,
-    };
-    let delta = Delta {
-        epoch: Clock(1),
-        value: emission.value.copy()?,
-        clocks: all_places_of(alloc, stamps)?,
-    };
-    mail_in_full(alloc, readers, announced, delta)
+    let keys = keys_of(alloc, stamps)?;
+    let mail = scratch.take_mail().emptied();
+    all_places_of(stamps, &mut scratch.places)?;
+    let clocks = scratch.places.as_slice();
+    mail_in_full(
+        alloc,
+        readers,
+        keys.as_slice(),
+        &emission.value,
+        clocks,
+        mail,
+    )
 }
 
 // What changed since the stamps `told`, which have the same keys, to each reader.
@@ -102,17 +109,16 @@ fn tell_changes(
     readers: &[(ServiceId, Clock)],
     told: &Stamps,
     emission: &Emission,
+    scratch: &mut Scratch,
 ) -> Result<Mail, OutOfMemory>
     requires epochs { All (λ reader. 1 ≤ reader.1) readers.now }
     requires same { have_same_keys told.now emission.now.stamps ≡ true }
     ensures { IfOk result (λ mail. Says mail (each_told readers.now (λ epoch. tell epoch told.now emission.now))) }
 {
-    let delta = Delta {
-        epoch: Clock(1),
-        value: emission.value.copy()?,
-        clocks: changes_of(alloc, told, &emission.stamps)?,
-    };
-    mail_values(alloc, readers, delta)
+    let mail = scratch.take_mail().emptied();
+    changes_of(told, &emission.stamps, &mut scratch.places)?;
+    let clocks = scratch.places.as_slice();
+    mail_values(alloc, readers, &emission.value, clocks, mail)
 }
 
 // The frames that tell an emission to readers that were told the stamps `told` last.
@@ -121,15 +127,16 @@ fn tell_after(
     readers: &[(ServiceId, Clock)],
     told: &Stamps,
     emission: &Emission,
+    scratch: &mut Scratch,
 ) -> Result<Mail, OutOfMemory>
     requires epochs { All (λ reader. 1 ≤ reader.1) readers.now }
     requires some { 0 < length emission.now.stamps }
     ensures { IfOk result (λ mail. Says mail (reports (told_all told.now readers.now) emission.now)) }
 {
     if same_keys(told, &emission.stamps) {
-        tell_changes(alloc, readers, told, emission)
+        tell_changes(alloc, readers, told, emission, scratch)
     } else {
-        tell_in_full(alloc, readers, emission)
+        tell_in_full(alloc, readers, emission, scratch)
     }
 }
 
@@ -139,6 +146,7 @@ pub(crate) fn tell_all(
     readers: &[(ServiceId, Clock)],
     last: &Option<Emission>,
     emission: &Emission,
+    scratch: &mut Scratch,
 ) -> Result<Mail, OutOfMemory>
     requires epochs { All (λ reader. 1 ≤ reader.1) readers.now }
     requires some { 0 < length emission.now.stamps }
@@ -148,7 +156,7 @@ pub(crate) fn tell_all(
         return Ok(Mail::new(alloc));
     }
     match last {
-        None => tell_in_full(alloc, readers, emission),
-        Some(told) => tell_after(alloc, readers, &told.stamps, emission),
+        None => tell_in_full(alloc, readers, emission, scratch),
+        Some(told) => tell_after(alloc, readers, &told.stamps, emission, scratch),
     }
 }

@@ -8,6 +8,7 @@ ghost use Rattle.node_core.specs.View.{SameKept};
 
 use crate::journal::Journal;
 use crate::mail::Mail;
+use crate::scratch::Scratch;
 use crate::telling::tell_in_full;
 use pred_queue::Emission;
 use std::alloc::Global;
@@ -19,6 +20,7 @@ fn welcome(
     reader: ServiceId,
     epoch: Clock,
     last: &Option<Emission>,
+    scratch: &mut Scratch,
 ) -> Result<Mail, OutOfMemory>
     requires epoch { 1 ≤ epoch }
     requires some { (m : TheEmission Value) → last.now ≡ Some m → 0 < length m.stamps }
@@ -26,7 +28,7 @@ fn welcome(
 {
     match last {
         None => Ok(Mail::new(alloc)),
-        Some(emission) => tell_in_full(alloc, &[(reader, epoch)], emission),
+        Some(emission) => tell_in_full(alloc, &[(reader, epoch)], emission, scratch),
     }
 }
 
@@ -37,6 +39,7 @@ pub(crate) fn staged_welcome(
     reader: ServiceId,
     epoch: Clock,
     last: &Option<Emission>,
+    scratch: &mut Scratch,
 ) -> Result<Mail, OutOfMemory>
     requires epoch { 1 ≤ epoch }
     requires some { (m : TheEmission Value) → last.now ≡ Some m → 0 < length m.stamps }
@@ -45,7 +48,7 @@ pub(crate) fn staged_welcome(
     ensures entries { IfOk result (λ mail. length mail < journal.new.entry_room) }
     ensures posts { IfOk result (λ mail. length mail ≤ journal.new.post_room) }
 {
-    let mail = welcome(alloc, reader, epoch, last)?;
+    let mail = welcome(alloc, reader, epoch, last, scratch)?;
     journal.reserve(mail.len())?;
     Ok(mail)
 }

@@ -6,6 +6,8 @@ ghost use Rattle.svc_graph.specs.History.{dependencies};
 use super::Node;
 use crate::Entry;
 use crate::rewiring::{Rewired, prepare_change, rewire_slots};
+use crate::slots::inputs_of;
+use stamp_match::Matcher;
 use std::mem;
 use svc_value::{Clock, OutOfMemory};
 
@@ -41,11 +43,13 @@ impl Node {
             room,
         } = prepare_change(self.alloc, &self.by, change, &self.edges, slots, clock)?;
         self.journal.reserve(mail.len())?;
-        self.journal.record(Entry::Did(clock.0), mail);
+        let _ = self.journal.record(Entry::Did(clock.0), mail);
         let old = mem::replace(&mut self.slots, Vec::new(self.alloc));
         self.slots = rewire_slots(self.alloc, old, room, &edges, clock);
         let _ = mem::replace(&mut self.edges, edges);
         let _ = mem::replace(&mut self.by, Some(definition));
+        let inputs = inputs_of(&self.edges, self.slots.as_slice());
+        self.matcher = Matcher::of(inputs, &self.floor);
         self.own = clock;
         self.done += 1;
         self.due = true;

@@ -1,21 +1,21 @@
 // Frames that a service takes.
-ghost use Rattle.std.specs.Prelude.{◌≡◌, IfErr, OnOk, None};
-ghost use Rattle.propagation.specs.Logs.Frame.{Subscribe as TheSubscribe, Unsubscribe as TheUnsubscribe, Sources as TheSources, Changed as TheChanged};
+ghost use Rattle.std.specs.Prelude.{◌≡◌, slice_index, IfErr, OnOk, None};
+ghost use Rattle.propagation.specs.Logs.Frame.{Subscribe as TheSubscribe, Unsubscribe as TheUnsubscribe, Sources as TheSources};
 ghost use Rattle.service_machine.specs.Steps.{took, took_log};
-ghost use Rattle.wire_frame.specs.declared.frame.Frame.TheVariants.{Subscribe as IsSubscribe, Unsubscribe as IsUnsubscribe, Sources as IsSources, Changed as IsChanged};
-ghost use Rattle.wire_frame.specs.Frames.{FrameOf, pairs};
+ghost use Rattle.wire_frame.specs.declared.frame.Frame.TheVariants.{Subscribe as IsSubscribe, Unsubscribe as IsUnsubscribe, Sources as IsSources};
+ghost use Rattle.wire_frame.specs.Frames.{FrameOf};
 
 use super::Node;
-use crate::hearing::{announce, put};
+use crate::hearing::{announce, hear_value};
 use crate::mail::Mail;
 use crate::ranks::is_below;
-use crate::reading::whole_frame;
+use crate::reading::{begins_value, whole_frame};
 use crate::refusing::{of_readers, of_slot};
-use crate::testing::{test_sources, test_value};
+use crate::testing::test_sources;
 use crate::welcome::staged_welcome;
 use crate::{Entry, TakeRefusal};
 use svc_value::{Bytes, Clock, ServiceId};
-use wire_frame::{Announced, Delta, Frame};
+use wire_frame::{Announced, Frame};
 
 impl Node {
     ghost use Rattle.node_core.specs.View.{Grows};
@@ -35,15 +35,22 @@ impl Node {
         ensures err { IfErr result (λ refused. (self.new ≡ self.old) × (refused.1 ≡ bytes)) }
         ensures refused { IfErr result (λ refused. TellsOf (failed_test self.old sender (TheSubscribe epoch)) refused.0) }
     {
-        let Ok(mail) = staged_welcome(self.alloc, &mut self.journal, sender, epoch, &self.last)
-        else {
+        let Ok(mail) = staged_welcome(
+            self.alloc,
+            &mut self.journal,
+            sender,
+            epoch,
+            &self.last,
+            &mut self.scratch,
+        ) else {
             return Err((TakeRefusal::OutOfMemory, bytes));
         };
         let above = is_below(self.roster.as_slice(), self.id, sender);
         if let Err(error) = self.readers.subscribe(sender, above, epoch) {
             return Err((of_readers(error), bytes));
         }
-        self.journal.record(Entry::Took(sender, bytes), mail);
+        let mail = self.journal.record(Entry::Took(sender, bytes), mail);
+        self.scratch.keep_mail(mail);
         Ok(())
     }
 
@@ -67,7 +74,8 @@ impl Node {
         if let Err(error) = self.readers.unsubscribe(sender, epoch) {
             return Err((of_readers(error), bytes));
         }
-        self.journal
+        let _ = self
+            .journal
             .record(Entry::Took(sender, bytes), Mail::new(self.alloc));
         Ok(())
     }
@@ -96,37 +104,31 @@ impl Node {
         if let Err(error) = announce(self.alloc, &mut self.slots, sender, announced.epoch, keys) {
             return Err((of_slot(error), bytes));
         }
-        self.journal
+        let _ = self
+            .journal
             .record(Entry::Took(sender, bytes), Mail::new(self.alloc));
         Ok(())
     }
 
-    // A value comes.
-    fn take_value(
-        &mut self,
-        sender: ServiceId,
-        delta: Delta,
-        bytes: Bytes,
-    ) -> Result<(), (TakeRefusal, Bytes)>
-        requires frame { FrameOf (IsChanged delta) bytes }
-        ensures tested { OnOk result (failed_test self.old sender (TheChanged delta.epoch delta.value (pairs delta.clocks)) ≡ None) }
-        ensures state { OnOk result (self.new.state ≡ took sender (TheChanged delta.epoch delta.value (pairs delta.clocks)) self.old.state) }
-        ensures log { OnOk result (Grows self.old self.new (took_log sender (TheChanged delta.epoch delta.value (pairs delta.clocks)) self.old.state)) }
+    // A value comes, as bytes that begin as one of version 2.
+    fn take_value(&mut self, sender: ServiceId, bytes: Bytes) -> Result<(), (TakeRefusal, Bytes)>
+        requires { slice_index bytes 0 ≡ 5 }
+        ensures ok { OnOk result (Takes sender bytes self.old self.new) }
         ensures err { IfErr result (λ refused. (self.new ≡ self.old) × (refused.1 ≡ bytes)) }
-        ensures refused { IfErr result (λ refused. TellsOf (failed_test self.old sender (TheChanged delta.epoch delta.value (pairs delta.clocks))) refused.0) }
+        ensures refused { IfErr result (λ refused. IsRefused self.old sender bytes refused.0) }
     {
-        if let Err(error) = test_value(self.roster.as_slice(), self.id, sender, &delta.value) {
-            return Err((error, bytes));
+        let roster = self.roster.as_slice();
+        let (slots, journal) = (&mut self.slots, &mut self.journal);
+        let (id, own) = (self.id, self.own);
+        let lent = bytes.as_slice();
+        match hear_value(self.alloc, roster, id, own, slots, journal, sender, lent) {
+            Ok(()) => {
+                let mail = Mail::new(self.alloc);
+                let _ = self.journal.record(Entry::Took(sender, bytes), mail);
+                Ok(())
+            }
+            Err(refusal) => Err((refusal, bytes)),
         }
-        if self.journal.reserve(0).is_err() {
-            return Err((TakeRefusal::OutOfMemory, bytes));
-        }
-        if let Err(error) = put(&mut self.slots, sender, self.own, delta) {
-            return Err((of_slot(error), bytes));
-        }
-        self.journal
-            .record(Entry::Took(sender, bytes), Mail::new(self.alloc));
-        Ok(())
     }
 
     // Takes a frame.
@@ -146,7 +148,7 @@ impl Node {
             Frame::Unsubscribe(epoch) => self.take_unsubscribe(sender, epoch, bytes),
             Frame::Sources(announced) => self.take_sources(sender, announced, bytes),
             Frame::Carried(_) => Err((TakeRefusal::Old, bytes)),
-            Frame::Changed(delta) => self.take_value(sender, delta, bytes),
+            Frame::Changed(_) => self.take_value(sender, bytes),
         }
     }
 
@@ -161,6 +163,9 @@ impl Node {
         ensures err { IfErr result (λ refused. (self.new ≡ self.old) × (refused.1 ≡ bytes)) }
         ensures refused { IfErr result (λ refused. IsRefused self.old sender bytes refused.0) }
     {
+        if begins_value(bytes.as_slice()) {
+            return self.take_value(sender, bytes);
+        }
         match whole_frame(self.alloc, bytes.as_slice()) {
             Ok(frame) => self.take_frame(sender, frame, bytes),
             Err(error) => Err((error, bytes)),

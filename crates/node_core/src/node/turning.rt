@@ -6,11 +6,11 @@ ghost use Rattle.stamp_match.specs.Named.{sender_at};
 ghost use Rattle.svc_graph.specs.History.{meaning_of};
 
 use super::Node;
-use crate::computing::{computation_of, emission_over, raise_by};
-use crate::slots::inputs_of;
+use crate::computing::{computation_of, emission_over};
+use crate::slots::{advance_at, inputs_of, raise_by};
 use crate::telling::tell_all;
 use crate::{Entry, Turned};
-use stamp_match::{Choice, choose};
+use stamp_match::Choice;
 use std::mem;
 use std::sync::ledger::Ledger;
 use svc_value::{OutOfMemory, ServiceId, Steps};
@@ -20,7 +20,7 @@ impl Node {
     ghost use Rattle.node_core.specs.Answers.{IsAnswer, moves_of};
 
     // Computes by the present definition, if there is one, and tells the readers.
-    fn compute(&mut self) -> Result<(), OutOfMemory>
+    fn compute<L: Ledger>(&mut self, looks: &mut Steps<L>) -> Result<(), OutOfMemory>
         ensures state { OnOk result (self.new.state ≡ computed meaning_of self.old.state self.old.state.by) }
         ensures log { OnOk result (Grows self.old self.new (computed_log meaning_of self.old.state self.old.state.by)) }
         ensures err { OnErr result (self.new ≡ self.old) }
@@ -29,32 +29,46 @@ impl Node {
             return Ok(());
         };
         let inputs = inputs_of(&self.edges, self.slots.as_slice());
-        let emission = emission_over(self.alloc, self.id, self.own, by, inputs)?;
+        let scratch = &mut self.scratch;
+        let emission = emission_over(self.alloc, self.id, self.own, by, inputs, scratch)?;
         let computation = computation_of(self.alloc, &emission, inputs)?;
-        let mail = tell_all(self.alloc, self.readers.as_slice(), &self.last, &emission)?;
+        let readers = self.readers.as_slice();
+        let mail = tell_all(self.alloc, readers, &self.last, &emission, scratch)?;
         self.journal.reserve(mail.len())?;
-        self.journal.record(Entry::Computed(computation), mail);
+        let mail = self.journal.record(Entry::Computed(computation), mail);
+        scratch.keep_mail(mail);
         self.due = false;
-        raise_by(&mut self.floor, &emission);
-        let _ = mem::replace(&mut self.last, Some(emission));
+        let inputs = inputs_of(&self.edges, self.slots.as_slice());
+        let (matcher, floor) = (&mut self.matcher, &mut self.floor);
+        raise_by(matcher, floor, &emission, inputs, looks);
+        let last = mem::replace(&mut self.last, Some(emission));
+        scratch.keep_stamps(last);
         Ok(())
     }
 
     // The next value of the dependency at a place becomes its head.
-    fn advance<M: Ledger>(&mut self, place: usize, moves: &mut Steps<M>)
+    fn advance<M: Ledger, L: Ledger>(
+        &mut self,
+        place: usize,
+        moves: &mut Steps<M>,
+        looks: &mut Steps<L>,
+    )
         requires place { place < length self.old.state.edges }
         requires next { has_next (slot_at self.old.state.slots (sender_at self.old.state.slots place)) ≡ true }
         ensures state { self.new ≡ record self.old { state = moved (sender_at self.old.state.slots place) self.old.state } }
         ensures moves { moves.new ≡ moves.old + 1 }
     {
-        let _count = self.journal.entries().len();
-        let slot = &mut self.slots[place];
-        slot.advance(moves);
+        let _entries = self.journal.entries().len();
+        let (slots, matcher) = (&mut self.slots, &mut self.matcher);
+        let count = self.edges.len();
+        advance_at(slots, count, place, matcher, &self.floor, moves, looks);
         self.due = true;
     }
 
     /// One turn: the first case of the turn table that applies. It takes one step of `moves` exactly where it answers
-    /// `Advanced`, and one of `looks` for each comparison of a clock. After `OutOfMemory` the node is as it was.
+    /// `Advanced`, and one of `looks` for each comparison of a clock. What the table looks for is kept up to date: `Advanced`
+    /// looks at the clocks of the head that goes and of the one that comes, `Computed` at those that are emitted, `Lags` at those
+    /// of the head that it names, and the others at none. After `OutOfMemory` the node is as it was.
     pub fn turn<M: Ledger, L: Ledger>(
         &mut self,
         moves: &mut Steps<M>,
@@ -67,13 +81,13 @@ impl Node {
         ensures err { OnErr result (self.new ≡ self.old) }
     {
         let inputs = inputs_of(&self.edges, self.slots.as_slice());
-        match choose(inputs, &self.floor, self.due, looks) {
+        match self.matcher.choice(inputs, &self.floor, self.due, looks) {
             Choice::Advance(place) => {
-                self.advance(place, moves);
+                self.advance(place, moves, looks);
                 Ok(Turned::Advanced)
             }
             Choice::Ready => {
-                self.compute()?;
+                self.compute(looks)?;
                 Ok(Turned::Computed)
             }
             Choice::Empty(place) => Ok(Turned::Empty(self.sender(place))),

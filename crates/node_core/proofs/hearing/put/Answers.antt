@@ -2,7 +2,6 @@ use Rattle.std.proofs.Common.{◌≡◌, ◌∙◌, List, None, Some, sym, ap}
 use Rattle.service_machine.specs.Refusing.{refuse_put}
 use Rattle.service_machine.specs.States.{Slot, put, slot_at, with_slot}
 use Rattle.svc_value.specs.declared.value.Value.{Value}
-use Rattle.wire_frame.specs.declared.place_clock.PlaceClock.{PlaceClock}
 use Rattle.wire_frame.specs.Frames.{pairs}
 use Rattle.node_core.specs.Hearing.{place_in}
 use Rattle.node_core.proofs.HearLemmas.{slot_sender, place_slot, place_set, no_place_slot}
@@ -18,25 +17,22 @@ returns-in-Ok-clause-exactly c =
     let slots : List (Slot Value) = c.args.slots.now.items in
     let at : place_in slots c.args.sender ≡ Some c.in-Some.place = ap (λ (xs : List (Slot Value)). place_in xs c.args.sender) (sym c.as_slice.ensures.value) ∙ sym c.in-Some.ensures in
     c.in-Ok.ensures.exactly
-    ∙ ap (λ (xs : List PlaceClock). refuse_put c.index_mut-slot.result.now.announced c.index_mut-slot.result.now.carried c.args.delta.epoch (pairs xs)) c.as_slice-2.ensures
     ∙ ap (λ (z : Slot Value). refuse_put z.announced z.carried c.args.delta.epoch (pairs c.args.delta.clocks)) (sym (place_slot slots c.args.sender c.in-Some.place c.index_mut-slot.result.now at c.index_mut-slot.ensures.value))
 
 pub returns-in-Ok-clause-ok : goal.returns-in-Ok-clause-ok
 returns-in-Ok-clause-ok c =
     let slots : List (Slot Value) = c.args.slots.now.items in
     let at : place_in slots c.args.sender ≡ Some c.in-Some.place = ap (λ (xs : List (Slot Value)). place_in xs c.args.sender) (sym c.as_slice.ensures.value) ∙ sym c.in-Some.ensures in
-    let new_is : c.put.new.self ≡ put c.args.own c.args.delta.epoch c.args.delta.value (pairs c.args.delta.clocks) (slot_at slots c.args.sender) =
+    let new_is : c.put_places.new.self ≡ put c.args.own c.args.delta.epoch c.args.delta.value (pairs c.args.delta.clocks) (slot_at slots c.args.sender) =
     c.in-Ok.ensures.ok
-    ∙ ap (λ (xs : List PlaceClock). put c.args.own c.args.delta.epoch c.args.delta.value (pairs xs) c.index_mut-slot.result.now) c.as_slice-2.ensures
     ∙ ap (λ (z : Slot Value). put c.args.own c.args.delta.epoch c.args.delta.value (pairs c.args.delta.clocks) z) (sym (place_slot slots c.args.sender c.in-Some.place c.index_mut-slot.result.now at c.index_mut-slot.ensures.value)) in
-    place_set slots c.args.sender c.in-Some.place c.index_mut-slot.result.now c.put.new.self at c.index_mut-slot.ensures.value
+    place_set slots c.args.sender c.in-Some.place c.index_mut-slot.result.now c.put_places.new.self at c.index_mut-slot.ensures.value
     (ap (λ (z : Slot Value). z.sender) new_is ∙ slot_sender slots c.args.sender)
     ∙ ap (λ (z : Slot Value). with_slot z slots) new_is
 
-pub returns-clause-exactly : goal.returns-clause-exactly
-returns-clause-exactly c =
+pub returns-in-Err-clause-exactly : goal.returns-in-Err-clause-exactly
+returns-in-Err-clause-exactly c =
     let slots : List (Slot Value) = c.args.slots.now.items in
     let at : place_in slots c.args.sender ≡ Some c.in-Some.place = ap (λ (xs : List (Slot Value)). place_in xs c.args.sender) (sym c.as_slice.ensures.value) ∙ sym c.in-Some.ensures in
     c.in-Err.ensures.exactly
-    ∙ ap (λ (xs : List PlaceClock). refuse_put c.index_mut-slot.result.now.announced c.index_mut-slot.result.now.carried c.args.delta.epoch (pairs xs)) c.as_slice-2.ensures
     ∙ ap (λ (z : Slot Value). refuse_put z.announced z.carried c.args.delta.epoch (pairs c.args.delta.clocks)) (sym (place_slot slots c.args.sender c.in-Some.place c.index_mut-slot.result.now at c.index_mut-slot.ensures.value))

@@ -1,21 +1,23 @@
-use Rattle.std.proofs.Common.{◌≡◌, true, sym, subst, IfOk}
+use Rattle.std.proofs.Common.{◌≡◌, ◌∙◌, List, true, refl, ap, sym, subst, IfOk}
 use Rattle.std.proofs.lemmas.Result.{IfOk-weaker}
 use Rattle.propagation.specs.Stamps.{same_keys}
 use Rattle.propagation.specs.Logs.{Emission, tell}
 use Rattle.svc_value.specs.declared.value.Value.{Value}
+use Rattle.wire_frame.specs.declared.place_clock.PlaceClock.{PlaceClock}
+use Rattle.wire_frame.specs.Frames.{pairs}
 use Rattle.node_core.specs.Mail.{Says, each_told, value_letter}
 use Rattle.node_core.proofs.LayoutLemmas.{change_layout}
 use Rattle.node_core.proofs.SaysLemmas.{change_letters}
 use Rattle.node_core.proofs.telling.tell_changes.Goals as goal
 
 pub mail_values-requires-clause-layout : goal.mail_values-requires-clause-layout
-mail_values-requires-clause-layout c = change_layout c.args.told.now c.emission.inside.stamps c.in_ok-copy.field-0 c.in_ok-changes_of.field-0 c.in_ok-changes_of.ensures.stamps c.in_ok-changes_of.ensures.places
+mail_values-requires-clause-layout c = change_layout c.args.told.now c.emission.inside.stamps c.emission.inside.value c.as_slice-clocks.result.now c.in_ok-changes_of.ensures.stamps (ap (λ (zs : List PlaceClock). pairs zs) c.as_slice-clocks.ensures.value ∙ c.in_ok-changes_of.ensures.places)
 
 pub returns : goal.returns
 returns c =
     let P : Emission Value → Type 0 = λ m. IfOk c.mail_values.result (λ mail. Says mail (each_told c.args.readers.now (λ e. tell e c.args.told.now m))) in
     subst P c.emission.view_is
-    (IfOk-weaker c.mail_values.result (λ mail. Says mail (each_told c.args.readers.now (value_letter (record { epoch = 1; value = c.in_ok-copy.field-0; clocks = c.in_ok-changes_of.field-0 })))) (λ mail. Says mail (each_told c.args.readers.now (λ e. tell e c.args.told.now (record { value = c.emission.inside.value; stamps = c.emission.inside.stamps }))))
-    (λ mail says. change_letters mail c.args.readers.now c.args.told.now (record { epoch = 1; value = c.in_ok-copy.field-0; clocks = c.in_ok-changes_of.field-0 }) (record { value = c.emission.inside.value; stamps = c.emission.inside.stamps })
-    (let Q : Emission Value → Type 0 = λ m. same_keys c.args.told.now m.stamps ≡ true in subst Q (sym {A = Emission Value} c.emission.view_is) c.requires.same) c.in_ok-copy.ensures c.in_ok-changes_of.ensures.places says)
+    (IfOk-weaker c.mail_values.result (λ mail. Says mail (each_told c.args.readers.now (value_letter (record { epoch = 1; value = c.emission.inside.value; clocks = c.as_slice-clocks.result.now })))) (λ mail. Says mail (each_told c.args.readers.now (λ e. tell e c.args.told.now (record { value = c.emission.inside.value; stamps = c.emission.inside.stamps }))))
+    (λ mail says. change_letters mail c.args.readers.now c.args.told.now (record { epoch = 1; value = c.emission.inside.value; clocks = c.as_slice-clocks.result.now }) (record { value = c.emission.inside.value; stamps = c.emission.inside.stamps })
+    (let Q : Emission Value → Type 0 = λ m. same_keys c.args.told.now m.stamps ≡ true in subst Q (sym {A = Emission Value} c.emission.view_is) c.requires.same) refl (ap (λ (zs : List PlaceClock). pairs zs) c.as_slice-clocks.ensures.value ∙ c.in_ok-changes_of.ensures.places) says)
     c.mail_values.ensures)

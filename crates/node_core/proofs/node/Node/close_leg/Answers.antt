@@ -1,4 +1,4 @@
-use Rattle.std.proofs.Common.{sym, subst, arith, List}
+use Rattle.std.proofs.Common.{sym, subst, arith, length, List}
 use Rattle.service_machine.specs.States.{Slot}
 use Rattle.service_machine.specs.Openings.{AtRest, first_slots}
 use Rattle.svc_value.specs.declared.value.Value.{Value}
@@ -6,6 +6,7 @@ use Rattle.node_core.specs.declared.entry.Entry.{Entry}
 use Rattle.node_core.specs.View.{Service, AreInOrder, AreCounted}
 use Rattle.node_core.specs.Inside.{service_of}
 use Rattle.node_core.proofs.DefinitionLemmas.{all_done, defined_close}
+use Rattle.node_core.proofs.MatcherLemmas.{matched_begun}
 use Rattle.node_core.proofs.SlotLemmas.{in_order_open, counted_close}
 use Rattle.node_core.proofs.node.Node.close_leg.Goals as goal
 
@@ -22,4 +23,5 @@ invariant_of-self c =
       counted = (let P : List (Slot Value) → Type 0 = λ slots. AreCounted c.clear.new.self.entries slots in
           let Q : List Entry → Type 0 = λ entries. AreCounted entries (first_slots c.self.inside.slots.items) in
           subst P (sym c.begin_all.ensures) (subst Q (sym c.clear.ensures.entries) (counted_close c.self.inside.slots.items c.self.invariant.in_order.apart rest.none_waits)));
+      matched = matched_begun (length c.self.inside.edges) c.self.inside.slots.items _ c.self.inside.floor c.self.inside.matcher c.begin_all.ensures c.self.invariant.matched;
     }

@@ -1,9 +1,10 @@
-use Rattle.std.proofs.Common.{◌≡◌, ◌<◌, ◌≤◌, ◌∙◌, ◌∷◌, ◌++◌, List, ℕ, Some, Option, length, length-append, drop, suc, sym, ap, subst, arith, refl, add-one}
+use Rattle.std.proofs.Common.{◌≡◌, ◌<◌, ◌≤◌, ◌∙◌, ◌∷◌, ◌++◌, List, ℕ, Some, Option, length, length-append, take, drop, suc, sym, ap, subst, arith, refl, add-one}
 use Rattle.std.specs.Prelude.{All}
 use Rattle.propagation.specs.Logs.Entry.{Did as TheDid}
 use Rattle.propagation.specs.Words.{Apart}
 use Rattle.service_machine.specs.States.{Slot, edges_to}
 use Rattle.service_machine.specs.Steps.{targets, cut_to, cut_others, done, done_log}
+use Rattle.stamp_match.specs.Kept.{IsMatcherOf}
 use Rattle.svc_graph.specs.History.{dependencies}
 use Rattle.svc_graph.specs.declared.definition.Definition.{Definition}
 use Rattle.svc_value.specs.declared.value.Value.{Value}
@@ -27,6 +28,38 @@ rewire_slots-requires-clause-targets c =
     let lt : c.self.inside.done < length c.self.inside.changes.items = omega (arith, c.if-self-len.false, c.len.ensures, c.self.invariant.within) in
     let few : IsFew (next c.self.inside.by c.index-change.result.now) = few_next c.self.inside.id c.self.inside.own c.self.inside.by c.self.inside.changes.items c.self.inside.done c.index-change.result.now c.self.invariant.defined lt c.index-change.ensures in
     subst Apart (sym (ap (λ (es : List (ℕ × ℕ)). targets es) c.in_ok-definition.ensures.edges ∙ edges_targets c.self.inside.edges c.next_clock-clock.result (dependencies (next c.self.inside.by c.index-change.result.now)))) few.apart
+
+pub inputs_of-inputs-requires : goal.inputs_of-inputs-requires
+inputs_of-inputs-requires c =
+    let lt : c.self.inside.done < length c.self.inside.changes.items = omega (arith, c.if-self-len.false, c.len.ensures, c.self.invariant.within) in
+    let few : IsFew (next c.self.inside.by c.index-change.result.now) = few_next c.self.inside.id c.self.inside.own c.self.inside.by c.self.inside.changes.items c.self.inside.done c.index-change.result.now c.self.invariant.defined lt c.index-change.ensures in
+    let up : c.next_clock-clock.result ≡ suc c.self.inside.own = omega (arith, c.next_clock-clock.ensures) in
+    let made : c.in_ok-definition.field-0.edges ≡ edges_to c.self.inside.edges c.next_clock-clock.result (dependencies (next c.self.inside.by c.index-change.result.now)) = c.in_ok-definition.ensures.edges in
+    let names : targets c.in_ok-definition.field-0.edges ≡ dependencies (next c.self.inside.by c.index-change.result.now) =
+    ap (λ (es : List (ℕ × ℕ)). targets es) made ∙ edges_targets c.self.inside.edges c.next_clock-clock.result (dependencies (next c.self.inside.by c.index-change.result.now)) in
+    let wired : c.replace.new.dest ≡ c.in_ok-definition.field-0.edges = c.replace.ensures.after in
+    let placed : c.rewire_slots.result.items ≡ cut_to c.in_ok-definition.field-0.edges c.next_clock-clock.result c.self.inside.slots.items ++ cut_others (targets c.in_ok-definition.field-0.edges) c.next_clock-clock.result c.self.inside.slots.items =
+    c.rewire_slots.ensures ∙ ap (λ (xs : List (Slot Value)). cut_to c.in_ok-definition.field-0.edges c.next_clock-clock.result xs ++ cut_others (targets c.in_ok-definition.field-0.edges) c.next_clock-clock.result xs) (ap (λ v. v.items) c.replace-old.ensures.value) in
+    let order : AreInOrder c.replace.new.dest c.rewire_slots.result.items = (let P : List (ℕ × ℕ) → Type 0 = λ es. AreInOrder es c.rewire_slots.result.items in
+    let Q : List (Slot Value) → Type 0 = λ xs. AreInOrder c.in_ok-definition.field-0.edges xs in
+    subst P (sym wired) (subst Q (sym placed) (in_order_cut c.in_ok-definition.field-0.edges c.next_clock-clock.result c.self.inside.slots.items (subst Apart (sym names) few.apart) c.self.invariant.in_order.apart))) in
+    let S : List (Slot Value) → Type 0 = λ xs. AreInOrder c.replace.new.dest xs in
+    subst S (sym c.as_slice.ensures.value) order
+
+pub of-self-inside-requires-clause-few : goal.of-self-inside-requires-clause-few
+of-self-inside-requires-clause-few c =
+    let lt : c.self.inside.done < length c.self.inside.changes.items = omega (arith, c.if-self-len.false, c.len.ensures, c.self.invariant.within) in
+    let few : IsFew (next c.self.inside.by c.index-change.result.now) = few_next c.self.inside.id c.self.inside.own c.self.inside.by c.self.inside.changes.items c.self.inside.done c.index-change.result.now c.self.invariant.defined lt c.index-change.ensures in
+    let up : c.next_clock-clock.result ≡ suc c.self.inside.own = omega (arith, c.next_clock-clock.ensures) in
+    let made : c.in_ok-definition.field-0.edges ≡ edges_to c.self.inside.edges c.next_clock-clock.result (dependencies (next c.self.inside.by c.index-change.result.now)) = c.in_ok-definition.ensures.edges in
+    let names : targets c.in_ok-definition.field-0.edges ≡ dependencies (next c.self.inside.by c.index-change.result.now) =
+    ap (λ (es : List (ℕ × ℕ)). targets es) made ∙ edges_targets c.self.inside.edges c.next_clock-clock.result (dependencies (next c.self.inside.by c.index-change.result.now)) in
+    let wired : c.replace.new.dest ≡ c.in_ok-definition.field-0.edges = c.replace.ensures.after in
+    let placed : c.rewire_slots.result.items ≡ cut_to c.in_ok-definition.field-0.edges c.next_clock-clock.result c.self.inside.slots.items ++ cut_others (targets c.in_ok-definition.field-0.edges) c.next_clock-clock.result c.self.inside.slots.items =
+    c.rewire_slots.ensures ∙ ap (λ (xs : List (Slot Value)). cut_to c.in_ok-definition.field-0.edges c.next_clock-clock.result xs ++ cut_others (targets c.in_ok-definition.field-0.edges) c.next_clock-clock.result xs) (ap (λ v. v.items) c.replace-old.ensures.value) in
+    let len : length c.replace.new.dest ≡ length (dependencies (next c.self.inside.by c.index-change.result.now)) =
+    ap (λ (es : List (ℕ × ℕ)). length es) (wired ∙ made) ∙ edges_length c.self.inside.edges c.next_clock-clock.result (dependencies (next c.self.inside.by c.index-change.result.now)) in
+    omega (arith, c.inputs_of-inputs.ensures.len, len, few.few)
 
 pub invariant_of-self-2 : goal.invariant_of-self-2
 invariant_of-self-2 c =
@@ -62,6 +95,8 @@ invariant_of-self-2 c =
           subst Q (sym placed) (counted_more c.self.inside.journal.entries c.record.new.self.entries _
           (omega (arith, grown, same, length-append c.reserve.new.self.entries (Did c.clock.inside.0 ∷ sent_entries c.in_ok-definition.field-0.mail)))
           (counted_cut c.self.inside.journal.entries c.in_ok-definition.field-0.edges (targets c.in_ok-definition.field-0.edges) c.next_clock-clock.result c.self.inside.slots.items c.self.invariant.counted)));
+      matched = (let P : List (Slot Value) → Type 0 = λ xs. IsMatcherOf xs c.self.inside.floor c.of-self-inside.result in
+          subst P (c.inputs_of-inputs.ensures.first ∙ ap (λ (xs : List (Slot Value)). take (length c.replace.new.dest) xs) c.as_slice.ensures.value) c.of-self-inside.ensures);
     }
 
 pub returns-clause-state : goal.returns-clause-state

@@ -7,6 +7,7 @@ use Rattle.svc_value.specs.declared.value.Value.{Value}
 use Rattle.node_core.specs.Coming.{coming}
 use Rattle.node_core.specs.View.{Service, AreInOrder, AreCounted}
 use Rattle.node_core.proofs.DefinitionLemmas.{defined_open}
+use Rattle.node_core.proofs.MatcherLemmas.{matched_begun}
 use Rattle.node_core.proofs.SlotLemmas.{in_order_open, counted_open}
 use Rattle.node_core.proofs.node.Node.open_leg.Goals as goal
 
@@ -23,4 +24,5 @@ invariant_of-self c =
       in_order = (let P : List (Slot Value) → Type 0 = λ slots. AreInOrder c.self.inside.edges slots in subst P (sym c.begin_all.ensures) (in_order_open c.self.inside.edges c.self.inside.slots.items c.self.invariant.in_order));
       within_layout = c.self.invariant.within_layout;
       counted = (let P : List (Slot Value) → Type 0 = λ slots. AreCounted c.self.inside.journal.entries slots in subst P (sym c.begin_all.ensures) (counted_open c.self.inside.journal.entries c.self.inside.slots.items c.self.invariant.counted));
+      matched = matched_begun (length c.self.inside.edges) c.self.inside.slots.items _ c.self.inside.floor c.self.inside.matcher c.begin_all.ensures c.self.invariant.matched;
     }

@@ -1,8 +1,8 @@
-use Rattle.std.proofs.Common.{refl, subst}
-use Rattle.propagation.specs.Logs.Frame.{Subscribe as TheSubscribe, Unsubscribe as TheUnsubscribe, Sources as TheSources, Changed as TheChanged}
+use Rattle.std.proofs.Common.{List, ℕ, slice_index, refl, ap, subst}
+use Rattle.propagation.specs.Logs.Frame.{Subscribe as TheSubscribe, Unsubscribe as TheUnsubscribe, Sources as TheSources}
 use Rattle.wire_frame.specs.declared.frame.Frame.{Frame}
 use Rattle.wire_frame.specs.declared.frame.Frame.TheVariants.{Subscribe, Unsubscribe, Sources, Changed}
-use Rattle.wire_frame.specs.Frames.{FrameOf, pairs}
+use Rattle.wire_frame.specs.Frames.{FrameOf}
 use Rattle.node_core.proofs.TakenLemmas.{takes, refuses}
 use Rattle.node_core.proofs.node.Node.take_frame.Goals as goal
 
@@ -27,13 +27,7 @@ returns-in-Sources-clause-refused c =
     let is : FrameOf (Sources c.in-Sources.announced) c.args.bytes = subst (λ (f : Frame). FrameOf f c.args.bytes) c.in-Sources.is c.requires.frame in
     refuses c.take_sources.result c.args.self.now c.args.sender c.args.bytes (Sources c.in-Sources.announced) (TheSources c.in-Sources.announced.epoch c.in-Sources.announced.keys) is refl c.take_sources.ensures.refused
 
-pub returns-clause-ok : goal.returns-clause-ok
-returns-clause-ok c =
-    let is : FrameOf (Changed c.in-Changed.delta) c.args.bytes = subst (λ (f : Frame). FrameOf f c.args.bytes) c.in-Changed.is c.requires.frame in
-    takes c.take_value.result c.args.self.now c.take_value.new.self c.args.sender c.args.bytes (Changed c.in-Changed.delta) (TheChanged c.in-Changed.delta.epoch c.in-Changed.delta.value (pairs c.in-Changed.delta.clocks)) is refl is.within.rise
-    c.take_value.ensures.tested c.take_value.ensures.state c.take_value.ensures.log
-
-pub returns-clause-refused : goal.returns-clause-refused
-returns-clause-refused c =
-    let is : FrameOf (Changed c.in-Changed.delta) c.args.bytes = subst (λ (f : Frame). FrameOf f c.args.bytes) c.in-Changed.is c.requires.frame in
-    refuses c.take_value.result c.args.self.now c.args.sender c.args.bytes (Changed c.in-Changed.delta) (TheChanged c.in-Changed.delta.epoch c.in-Changed.delta.value (pairs c.in-Changed.delta.clocks)) is refl c.take_value.ensures.refused
+pub take_value-requires : goal.take_value-requires
+take_value-requires c =
+    let is : FrameOf (Changed c.in-Changed.field-0) c.args.bytes = subst (λ (f : Frame). FrameOf f c.args.bytes) c.in-Changed.is c.requires.frame in
+    ap (λ (bs : List ℕ). slice_index bs 0) is.is

@@ -10,6 +10,9 @@ use Rattle.node_core.specs.Ranks.{rank_in}
 use Rattle.node_core.specs.Taking.{TellsOf, failed_test}
 use Rattle.node_core.specs.View.{Service, AreInOrder, AreCounted}
 use Rattle.node_core.proofs.HeardLemmas.{in_order_with, counted_at, counted_with}
+use Rattle.node_core.proofs.HearLemmas.{slot_sender}
+use Rattle.node_core.proofs.InputLemmas.{inputs_within}
+use Rattle.node_core.proofs.MatcherLemmas.{matched_heard}
 use Rattle.node_core.proofs.RankLemmas.{keys_known}
 use Rattle.node_core.proofs.TakeLemmas.{grows_took, says_nothing, longer}
 use Rattle.node_core.proofs.node.Node.take_sources.Goals as goal
@@ -45,6 +48,8 @@ invariant_of-self-2 c =
       counted = (let P : List (Slot Value) → Type 0 = λ xs. AreCounted c.record.new.self.entries xs in
           subst P (sym {A = List (Slot Value)} c.in_default-announce.ensures.ok)
           (counted_with c.self.inside.journal.entries c.record.new.self.entries slots new (omega (arith, more)) (omega (arith, more, was)) c.self.invariant.counted));
+      matched = matched_heard (length c.self.inside.edges) slots _ c.args.sender new c.self.inside.floor c.self.inside.matcher (inputs_within c.self.inside.edges slots c.self.invariant.in_order) c.in_default-announce.ensures.ok
+          (slot_sender slots c.args.sender) refl c.self.invariant.matched;
     }
 
 pub returns-clause-log : goal.returns-clause-log

@@ -44,7 +44,8 @@ invariant_of-self-2 c =
             (All-cons (λ (reader : ℕ × ℕ). 1 ≤ reader.1) (c.args.sender, c.args.epoch) [] c.requires.frame.within (All-nil (λ (reader : ℕ × ℕ). 1 ≤ reader.1)))));
         told = c.self.invariant.within_layout.told;
       };
-      counted = counted_longer _ _ _ _ _ c.self.inside.slots.items c.in-Ok.ensures.same.entries c.record.ensures.entries c.self.invariant.counted;
+      counted = counted_longer _ _ _ _ _ c.self.inside.slots.items c.in-Ok.ensures.same.entries c.record-mail.ensures.entries c.self.invariant.counted;
+      matched = c.self.invariant.matched;
     }
 
 pub returns-clause-tested : goal.returns-clause-tested
@@ -58,9 +59,9 @@ returns-clause-tested c =
 pub returns-clause-log : goal.returns-clause-log
 returns-clause-log c =
     grows_took c.args.self.now _ c.args.sender c.args.bytes (TheSubscribe c.args.epoch) c.staged_welcome.new.journal.entries c.staged_welcome.new.journal.outbox c.in-Ok.mail
-    c.record.ensures.entries (c.in-Ok.ensures.same.entries ∙ ap (λ (s : Service). s.entries) c.self.view_is)
-    c.record.ensures.outbox (c.in-Ok.ensures.same.outbox ∙ ap (λ (s : Service). s.outbox) c.self.view_is)
-    (c.record.ensures.handed ∙ c.in-Ok.ensures.same.handed ∙ ap (λ (s : Service). s.handed) c.self.view_is)
+    c.record-mail.ensures.entries (c.in-Ok.ensures.same.entries ∙ ap (λ (s : Service). s.entries) c.self.view_is)
+    c.record-mail.ensures.outbox (c.in-Ok.ensures.same.outbox ∙ ap (λ (s : Service). s.outbox) c.self.view_is)
+    (c.record-mail.ensures.handed ∙ c.in-Ok.ensures.same.handed ∙ ap (λ (s : Service). s.handed) c.self.view_is)
     (ap (λ (s : Service). s.roster) c.self.view_is) (ap (λ (s : Service). s.changes) c.self.view_is)
     (record { frame = Subscribe c.args.epoch; frame_of = c.requires.frame; is = refl })
     (let P : Service → Type 0 = λ s. Says c.in-Ok.mail (sends_to c.args.sender (reply (TheSubscribe c.args.epoch) s.state.last)) in subst P c.self.view_is c.in-Ok.ensures.says)

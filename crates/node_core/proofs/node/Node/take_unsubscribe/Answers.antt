@@ -42,6 +42,7 @@ invariant_of-self-2 c =
         told = c.self.invariant.within_layout.told;
       };
       counted = counted_longer _ _ _ _ _ c.self.inside.slots.items c.reserve.ensures.same.entries c.record.ensures.entries c.self.invariant.counted;
+      matched = c.self.invariant.matched;
     }
 
 pub returns-clause-tested : goal.returns-clause-tested
