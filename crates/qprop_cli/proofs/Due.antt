@@ -10,9 +10,9 @@ use Rattle.svc_text.specs.Document.{HasLegs, IsRefusal}
 use Rattle.svc_text.specs.Rows.{AreLegsAfter}
 use Rattle.trace_text.specs.Settled.{Settles}
 use Rattle.trace_text.proofs.Untracing.{settled_is_untraced}
-use Rattle.qprop_cli.specs.declared.command.Command.{Command}
-use Rattle.qprop_cli.specs.declared.command.Command.TheVariants.{Step, Check, Central, Frames, Make}
-use Rattle.qprop_cli.specs.declared.command.Size.{Size}
+use Rattle.command_words.specs.declared.command.Command.{Command}
+use Rattle.command_words.specs.declared.command.Command.TheVariants.{Step, Check, Central, Frames, Make}
+use Rattle.command_words.specs.declared.size.Size.{Size}
 use Rattle.svc_text.specs.Generator.{generated}
 use Rattle.qprop_cli.specs.Checked.{accepted_line}
 use Rattle.qprop_cli.specs.FrameStream.{HasLines, IsStreamRefusal}
@@ -20,7 +20,7 @@ use Rattle.qprop_cli.specs.Outcome.{SettledOutput, CheckOutput, CentralOutput, F
 use Rattle.qprop_cli.specs.Refusals.{refusal_line}
 use Rattle.qprop_cli.specs.Run.{AddsSettled, AddsBlocks, HasDone}
 use Rattle.qprop_cli.specs.Streams.{ReadsWhole, ReadsUpTo, AddsBeginning}
-use Rattle.qprop_cli.specs.Words.{usage_line}
+use Rattle.command_words.specs.Words.{usage_line}
 
 module _ (left_old left_new held_old held_new : Option (List ℕ)) where
   pub usage_due : AddsBeginning held_old held_new usage_line → AddsDue None left_old left_new held_old held_new

@@ -2,7 +2,6 @@ pub mod Counting
 pub mod Due
 pub mod Legs
 pub mod Runs
-pub mod Sizes
 pub mod Streaming
 pub mod Values
 pub mod Writes

@@ -6,4 +6,3 @@ pub mod Refusals
 pub mod Run
 pub mod Status
 pub mod Streams
-pub mod Words

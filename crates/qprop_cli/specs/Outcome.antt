@@ -12,15 +12,15 @@ use Rattle.svc_text.specs.Document.{HasLegs, IsAccepted, IsRefusal}
 use Rattle.svc_text.specs.Generator.{generated}
 use Rattle.trace_text.specs.Settled.{Settles}
 use Rattle.trace_text.specs.Untraced.{untraced}
-use Rattle.qprop_cli.specs.declared.command.Command.{Command}
-use Rattle.qprop_cli.specs.declared.command.Command.TheVariants.{Step, Check, Central, Frames, Make}
-use Rattle.qprop_cli.specs.declared.command.Size.{Size}
+use Rattle.command_words.specs.declared.command.Command.{Command}
+use Rattle.command_words.specs.declared.command.Command.TheVariants.{Step, Check, Central, Frames, Make}
+use Rattle.command_words.specs.declared.size.Size.{Size}
 use Rattle.qprop_cli.specs.Checked.{accepted_line}
 use Rattle.qprop_cli.specs.FrameStream.{HasLines, IsStreamRefusal}
 use Rattle.qprop_cli.specs.Refusals.{refusal_line}
 use Rattle.qprop_cli.specs.Run.{HasDone}
 use Rattle.qprop_cli.specs.Streams.{ReadsWhole, ReadsUpTo, AddsBeginning}
-use Rattle.qprop_cli.specs.Words.{usage_line}
+use Rattle.command_words.specs.Words.{usage_line}
 
 -- the source was read to its end, what it gave is a document with these legs, what was added is their settled text but for trace lines,
 -- and the network has done them

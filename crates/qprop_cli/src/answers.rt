@@ -4,7 +4,7 @@ ghost use Rattle.std.specs.Io.KnownBytes.{Appends, Keeps};
 ghost use Rattle.svc_value.specs.Causes.{Rose};
 ghost use Rattle.qprop_cli.specs.Refusals.{refusal_line};
 ghost use Rattle.qprop_cli.specs.Streams.{AddsBeginning};
-ghost use Rattle.qprop_cli.specs.Words.{usage_line};
+ghost use Rattle.command_words.specs.Words.{usage_line};
 
 use crate::outcome::ended;
 use crate::refusing::refusal_text;

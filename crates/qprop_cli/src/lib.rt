@@ -5,7 +5,6 @@ mod answers;
 mod central;
 mod check;
 mod checking;
-mod command;
 mod evaluating;
 mod frame_text;
 mod frames;
@@ -22,7 +21,7 @@ mod stream;
 mod tests;
 mod writing;
 
-pub use command::{Command, Size, USAGE};
+pub use command_words::{Command, Size, USAGE};
 pub use laws::streams_are_told;
 pub use outcome::{Outcome, Status};
 pub use plain::qprop_plain;

@@ -4,7 +4,7 @@ ghost use Rattle.std.specs.Io.KnownBytes.{Appends, Keeps};
 ghost use Rattle.svc_text.specs.Generator.{generated};
 ghost use Rattle.svc_value.specs.Causes.{Rose};
 ghost use Rattle.qprop_cli.specs.Streams.{AddsBeginning};
-ghost use Rattle.qprop_cli.specs.Words.{IsSize};
+ghost use Rattle.command_words.specs.Words.{IsSize};
 
 use crate::outcome::ended;
 use crate::writing::write_all;

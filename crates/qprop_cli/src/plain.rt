@@ -4,24 +4,25 @@ ghost use Rattle.std.specs.Io.KnownBytes.{Appends, Keeps};
 ghost use Rattle.std.specs.String.{string_bytes};
 ghost use Rattle.svc_text.specs.declared.refusal.Refusal.{Refusal};
 ghost use Rattle.svc_text.specs.Generator.{generated};
-ghost use Rattle.qprop_cli.specs.declared.command.Size.{Size};
+ghost use Rattle.command_words.specs.declared.size.Size.{Size};
 ghost use Rattle.svc_value.specs.Causes.{Rose};
 ghost use Rattle.qprop_cli.specs.Outcome.{SettledOutput, CheckOutput, CentralOutput, FramesOutput, RefusedOutput, AddsDue};
-ghost use Rattle.qprop_cli.specs.Words.{command_of, usage_line};
+ghost use Rattle.command_words.specs.Words.{command_of, usage_line};
 
 use crate::answers::usage;
 use crate::central::central;
 use crate::check::check;
 use crate::frames::frames;
 use crate::make::make;
+use crate::outcome::ended;
 use crate::step::step;
 use crate::{Command, Outcome, Status};
 use std::alloc::Global;
-use svc_value::{Sink, Source};
+use svc_value::{OutOfMemory, Sink, Source};
 
 /// Does what `words`, without the program's name, ask for. It reads from `source`, writes to `sink`, takes its memory from
 /// `alloc`, starts no thread and returns for every input. The clauses say how each status comes and what was written by then.
-#[tactic(auto, using(crate::proofs::Due::usage_due, crate::proofs::Due::made_due, crate::proofs::Sizes::size_made))]
+#[tactic(auto, using(crate::proofs::Due::usage_due, crate::proofs::Due::made_due, command_words::proofs::Sizes::size_made))]
 pub fn qprop_plain<S: Source, K: Sink>(
     alloc: Global,
     words: &[String],
@@ -60,12 +61,13 @@ pub fn qprop_plain<S: Source, K: Sink>(
     ensures no_state { (result.status ≢ Status.NoState) × (result.status ≢ Status.BadState) }
     ensures no_verdict { result.status ≢ Status.Illegal }
 {
-    match Command::from_words(words) {
-        Some(Command::Step) => step(alloc, source, sink),
-        Some(Command::Check) => check(alloc, source, sink),
-        Some(Command::Central) => central(alloc, source, sink),
-        Some(Command::Frames) => frames(alloc, source, sink),
-        Some(Command::Make(size)) => make(alloc, size, sink),
-        None => usage(sink),
+    match Command::from_words(alloc, words) {
+        Ok(Some(Command::Step)) => step(alloc, source, sink),
+        Ok(Some(Command::Check)) => check(alloc, source, sink),
+        Ok(Some(Command::Central)) => central(alloc, source, sink),
+        Ok(Some(Command::Frames)) => frames(alloc, source, sink),
+        Ok(Some(Command::Make(size))) => make(alloc, size, sink),
+        Ok(None) => usage(sink),
+        Err(OutOfMemory) => ended(Status::OutOfMemory),
     }
 }

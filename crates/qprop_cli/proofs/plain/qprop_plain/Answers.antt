@@ -1,6 +1,6 @@
 use Rattle.std.proofs.Common.{map, ap, sym, ◌∙◌, Some}
 use Rattle.std.specs.String.{string_bytes}
-use Rattle.qprop_cli.proofs.Sizes.{size_made}
+use Rattle.command_words.proofs.Sizes.{size_made}
 use Rattle.qprop_cli.proofs.plain.qprop_plain.Goals as goal
 
 pub make-requires : goal.make-requires

@@ -2,23 +2,22 @@
 use Rattle.std.proofs.Common.{◌≡◌, ℕ, ◌<◌, ◌≤◌, length, arith, Bool, true, false, List, [], ◌∷◌, Option, Some, None, refl, subst}
 use Rattle.std.specs.Prelude.{nat_le, nat_eq, codes, if◌then◌else◌}
 use Rattle.std.specs.Cmp.Lexicographic.{pointwise}
-use Rattle.std.proofs.lemmas.Bool.{leb-true}
-use Rattle.svc_graph.proofs.Lists.{and_left, and_right}
-use Rattle.qprop_cli.specs.declared.command.Command.TheVariants.{Step, Check, Central, Frames, Make}
-use Rattle.qprop_cli.specs.declared.command.Size.{Size}
-use Rattle.qprop_cli.specs.Words.{is_size, IsSize, size_of, making, number_of, command_of}
+use Rattle.std.proofs.lemmas.Bool.{leb-true, and_parts}
+use Rattle.command_words.specs.declared.command.Command.TheVariants.{Step, Check, Central, Frames, Make}
+use Rattle.command_words.specs.declared.size.Size.{Size}
+use Rattle.command_words.specs.Words.{is_size, IsSize, size_of, making, number_of, command_of}
 
 within : (s c n : ℕ) → is_size s c n ≡ true → IsSize (record { services = s; changes = c; start = n })
 within s c n h =
-    let h1 = and_right (nat_le 2 s) _ h in
-    let h2 = and_right (nat_le s 64) _ h1 in
-    let h3 = and_right (nat_le s c) _ h2 in
+    let h1 = (and_parts (nat_le 2 s) _ h).1 in
+    let h2 = (and_parts (nat_le s 64) _ h1).1 in
+    let h3 = (and_parts (nat_le s c) _ h2).1 in
     record {
-      some = leb-true 2 s (and_left (nat_le 2 s) _ h);
-      most = leb-true s 64 (and_left (nat_le s 64) _ h1);
-      births = leb-true s c (and_left (nat_le s c) _ h2);
-      changes = leb-true c 1024 (and_left (nat_le c 1024) _ h3);
-      start = leb-true n 65536 (and_right (nat_le c 1024) _ h3);
+      some = leb-true 2 s ((and_parts (nat_le 2 s) _ h).0);
+      most = leb-true s 64 ((and_parts (nat_le s 64) _ h1).0);
+      births = leb-true s c ((and_parts (nat_le s c) _ h2).0);
+      changes = leb-true c 1024 ((and_parts (nat_le c 1024) _ h3).0);
+      start = leb-true n 65536 ((and_parts (nat_le c 1024) _ h3).1);
     }
 
 sizes : (s c n : Option ℕ) (size : Size) → making (size_of s c n) ≡ Some (Make size) → IsSize size

@@ -2,9 +2,9 @@
 use Rattle.std.specs.Prelude.{ℕ, ◌+◌, ◌-◌, ◌*◌, ◌≤◌, ◌==◌, ◌&&◌, Bool, nat_le, List, [], ◌∷◌, Option, Some, None, nat_eq, codes, if◌then◌else◌}
 use Rattle.std.specs.Char.{is_ascii_digit}
 use Rattle.std.specs.Cmp.Lexicographic.{pointwise}
-use Rattle.qprop_cli.specs.declared.command.Command.{Command}
-use Rattle.qprop_cli.specs.declared.command.Command.TheVariants.{Step, Check, Central, Frames, Make}
-use Rattle.qprop_cli.specs.declared.command.Size.{Size}
+use Rattle.command_words.specs.declared.command.Command.{Command}
+use Rattle.command_words.specs.declared.command.Command.TheVariants.{Step, Check, Central, Frames, Make}
+use Rattle.command_words.specs.declared.size.Size.{Size}
 
 -- ---- numbers
 

@@ -1,0 +1,3 @@
+mod Accepted
+mod PlainWords
+pub mod Sizes

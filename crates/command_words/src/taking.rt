@@ -1,0 +1,80 @@
+// The commands as `clap` takes them: one for each first word, with its arguments. A flag of a command is added at its function.
+ghost use Rattle.std.specs.Prelude.{◌≡◌, IfOk, false};
+ghost use Rattle.clap.specs.Words.{app_of, rule_of};
+ghost use Rattle.command_words.specs.Taken.{bare, place, taken_by, step_taken, check_taken, central_taken, frames_taken, make_taken};
+
+use crate::Command;
+use clap::{Arg, ArgAction};
+use std::alloc::Global;
+use svc_value::OutOfMemory;
+
+/// What `clap` is to take for `command`.
+pub(crate) fn taken_by<'a>(
+    alloc: Global,
+    command: Command,
+) -> Result<clap::Command<'a>, OutOfMemory>
+    ensures { IfOk result (λ taken. app_of taken ≡ taken_by command) }
+{
+    match command {
+        Command::Step => Ok(step_taken(alloc)),
+        Command::Check => Ok(check_taken(alloc)),
+        Command::Central => Ok(central_taken(alloc)),
+        Command::Frames => Ok(frames_taken(alloc)),
+        Command::Make(_) => make_taken(alloc),
+    }
+}
+
+// `step`.
+fn step_taken<'a>(alloc: Global) -> clap::Command<'a>
+    ensures { app_of result ≡ step_taken }
+{
+    bare(alloc, "step")
+}
+
+// `check`.
+fn check_taken<'a>(alloc: Global) -> clap::Command<'a>
+    ensures { app_of result ≡ check_taken }
+{
+    bare(alloc, "check")
+}
+
+// `central`.
+fn central_taken<'a>(alloc: Global) -> clap::Command<'a>
+    ensures { app_of result ≡ central_taken }
+{
+    bare(alloc, "central")
+}
+
+// `frames`.
+fn frames_taken<'a>(alloc: Global) -> clap::Command<'a>
+    ensures { app_of result ≡ frames_taken }
+{
+    bare(alloc, "frames")
+}
+
+// `make` with its three numbers, as plain texts.
+fn make_taken<'a>(alloc: Global) -> Result<clap::Command<'a>, OutOfMemory>
+    ensures { IfOk result (λ command. app_of command ≡ make_taken) }
+{
+    Ok(
+        bare(alloc, "make")
+            .arg(place(alloc, "services"))?
+            .arg(place(alloc, "changes"))?
+            .arg(place(alloc, "start"))?,
+    )
+}
+
+// A command without arguments, and without a flag for help.
+fn bare<'a>(alloc: Global, name: &'a str) -> clap::Command<'a>
+    ensures { app_of result ≡ bare name.entry.now }
+{
+    clap::Command::new(alloc, name).disable_help_flag(true)
+}
+
+// An argument that must stand at its place.
+fn place<'a>(alloc: Global, name: &'a str) -> Arg<'a>
+    ensures rule { rule_of result ≡ place name.entry.now }
+    ensures local { result.global ≡ false }
+{
+    Arg::new(alloc, name).required(true).action(ArgAction::Set)
+}
