@@ -34,6 +34,7 @@ shape = (built make_taken).top
 abbrev at : ℕ → Held → Walk
 at position held = record { held = held; waiting = idle; position = position; is_trailing = false; stopped = None }
 
+-- a plain word goes to the argument at its place, and passes
 met : (position : ℕ) (held : Held) (word : Text) → IsPlain word → word_met shape.rules [] false idle position word held ≡ (held, value)
 met position held word p = rw (p.dashes, p.long, p.short) refl
 
@@ -57,6 +58,7 @@ module _ (a b c : Text) (pa : IsPlain a) (pb : IsPlain b) (pc : IsPlain c) where
   abbrev three : Walk
   three = after 3 two.held c
 
+  -- where the walk ends
   at_end : walk shape.rules [] nothing_held (a ∷ b ∷ c ∷ []) ≡ three
   at_end =
       ap (λ (w : Walk). walked shape.rules [] (walked shape.rules [] w b) c) (walked_on 1 nothing_held a pa)
@@ -70,6 +72,7 @@ module _ (a b c : Text) (pa : IsPlain a) (pb : IsPlain b) (pc : IsPlain c) where
       ∙ ap₂ (λ (t : Bool) (w : Walk). t && (turn_passes shape [] w c && true)) (passes_on 2 one.held b pb) (walked_on 2 one.held b pb)
       ∙ ap (λ (t : Bool). t && true) (passes_on 3 two.held c pc)
 
+  -- that the command takes the words, by where the walk ends and whether each word passed
   abbrev level : Walk → Bool → Bool
   level w passes = entered_passes (built make_taken) w.stopped && (passes && (settle_passes shape.rules shape.args_override_self w.held
       && (list_all default_passes shape.rules && is_valid shape (finished shape.rules w.held) (is_some (entered (built make_taken) w.stopped)))))
@@ -77,6 +80,7 @@ module _ (a b c : Text) (pa : IsPlain a) (pb : IsPlain b) (pc : IsPlain c) where
   pub make_takes : (first : Text) → takes make_taken (first ∷ a ∷ b ∷ c ∷ []) ≡ true
   make_takes first = ap₂ level at_end passed
 
+  -- and each is found under its name
   pub make_services : (first : Text) → first_of (codes "services") (matches_of make_taken (first ∷ a ∷ b ∷ c ∷ [])) ≡ Some a
   make_services first = ap (λ (w : Walk). first_of (codes "services") (finished shape.rules w.held)) at_end
 

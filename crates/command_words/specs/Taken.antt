@@ -14,15 +14,19 @@ bare name = record (new_app name) { top = record (new_app name).top { disable_he
 abbrev pub place : Text → Rule
 place name = record (new_rule name) { required = true; action = Some Set }
 
+-- `step`, without arguments
 abbrev pub step_taken : App
 step_taken = bare (codes "step")
 
+-- `check`, without arguments
 abbrev pub check_taken : App
 check_taken = bare (codes "check")
 
+-- `central`, without arguments
 abbrev pub central_taken : App
 central_taken = bare (codes "central")
 
+-- `frames`, without arguments
 abbrev pub frames_taken : App
 frames_taken = bare (codes "frames")
 
