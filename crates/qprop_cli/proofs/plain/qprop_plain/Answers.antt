@@ -5,4 +5,5 @@ use Rattle.qprop_cli.proofs.plain.qprop_plain.Goals as goal
 
 pub make-requires : goal.make-requires
 make-requires g c =
-    size_made (map string_bytes c.args.words.now) c.in-Some-Make.size (sym c.from_words.ensures.command ∙ c.in-Some-Make.is ∙ ap Some c.in-Some-Make.field-0-is)
+    let case = c.in-Ok-Some-Make in
+    size_made (map string_bytes c.args.words.now) case.size (sym case.ensures.command ∙ case.field-0-is ∙ ap Some case.field-0-0-is)
