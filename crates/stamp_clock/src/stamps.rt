@@ -43,7 +43,7 @@ impl Stamps {
     }
 
     /// The stamps of one service: `id`, below 64, at `clock`, at least 1. They are made in the memory of `memory`, whose
-    /// clocks are forgotten. `OutOfMemory` where it holds no clock and there is no more; the memory is then given back.
+    /// clocks are forgotten. `OutOfMemory` where it holds no clock and there is no more; the memory is then gone.
     pub fn one_in(memory: Clocks, id: ServiceId, clock: Clock) -> Result<Stamps, OutOfMemory>
         requires below { id < 64 }
         requires positive { 0 < clock }
@@ -172,7 +172,7 @@ impl Stamps {
     }
 
     /// The union of the two, as of `join`, made in the memory of `memory`, whose clocks are forgotten. `OutOfMemory` where it
-    /// holds too few clocks and there is no more; the memory is then given back.
+    /// holds too few clocks and there is no more; the memory is then gone.
     pub fn join_in(&self, other: &Stamps, memory: Clocks) -> Result<Stamps, OutOfMemory>
         ensures { IfOk result (λ both. both ≡ raise self.now other.now) }
     {
@@ -189,7 +189,7 @@ impl Stamps {
     }
 
     /// Stamps with the same keys and clocks, made in the memory of `memory`, whose clocks are forgotten. `OutOfMemory` where
-    /// it holds too few clocks and there is no more; the memory is then given back.
+    /// it holds too few clocks and there is no more; the memory is then gone.
     pub fn copy_in(&self, memory: Clocks) -> Result<Stamps, OutOfMemory>
         ensures { IfOk result (λ stamps. stamps ≡ self.now) }
     {
