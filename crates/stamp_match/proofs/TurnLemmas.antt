@@ -1,5 +1,5 @@
 -- What the flags tell of the turn table.
-use Rattle.std.proofs.Common.{take, ◌≤◌, ◌≡◌, ℕ, zero, suc, ◌+◌, ◌<◌, true, false, List, [], ◌∷◌, drop, length, slice_get, slice_index_or, Option, option_map, is_some, Some, None, sum_by, refl, sym, ap, ap₂, ◌∙◌, arith}
+use Rattle.std.proofs.Common.{◌≡◌, ◌≤◌, ℕ, zero, suc, ◌+◌, ◌<◌, true, false, List, [], ◌∷◌, take, drop, length, slice_get, slice_index_or, Option, option_map, is_some, Some, None, sum_by, refl, sym, ap, ap₂, ◌∙◌, arith}
 use Rattle.std.proofs.lemmas.List.Sums.{sum_by-cons}
 use Rattle.std.proofs.lemmas.List.{get_or-map, get_or_default, length-map}
 use Rattle.propagation.specs.Stamps.{Stamps, clock_of}

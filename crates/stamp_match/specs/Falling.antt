@@ -1,5 +1,5 @@
 -- Where a greatest clock may fall with a head that goes.
-use Rattle.std.specs.Prelude.{◌≡◌, ℕ, suc, ◌<◌, ◌≤◌, List, [], ◌∷◌, Option, nat_le, if◌then◌else◌}
+use Rattle.std.specs.Prelude.{ℕ, suc, ◌<◌, ◌≤◌, [], ◌∷◌, Option, nat_le, if◌then◌else◌}
 use Rattle.std.proofs.Common.{Some, None}
 use Rattle.propagation.specs.Stamps.{Stamps, clock_of}
 use Rattle.stamp_match.specs.Kept.{clock_in}

@@ -195,7 +195,8 @@ impl Matcher {
     /// is that of the first `count` slots and the floor, is so again; `place` is one of theirs. No memory is taken.
     ///
     /// Where the head that comes has no clock below the one of the head that goes, it takes at most two looks for each clock of
-    /// these two. Else a greatest clock may have fallen, and it takes at most two looks for each clock of all heads.
+    /// these two. Else a greatest clock may have fallen, and it takes at most two for each clock of the one that goes and of all
+    /// heads.
     pub fn advance<M: Ledger, L: Ledger>(
         &mut self,
         slots: &mut [Slot],

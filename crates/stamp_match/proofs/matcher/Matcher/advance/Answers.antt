@@ -1,4 +1,4 @@
-use Rattle.std.proofs.Common.{◌≡◌, ◌<◌, ◌≤◌, ◌+◌, ◌⊎◌, inl, inr, ℕ, None, Some, List, Option, length, take, slice_index_or, set, sym, subst, ap, ◌∙◌, arith}
+use Rattle.std.proofs.Common.{◌≡◌, ◌<◌, ◌≤◌, inl, inr, ℕ, None, Some, List, Option, length, take, slice_index_or, set, sym, subst, ap, ◌∙◌, arith}
 use Rattle.std.proofs.lemmas.List.{map-set, get_or-set_same, length-take-le}
 use Rattle.std.proofs.Math.Seq.{take-set-lt}
 use Rattle.propagation.specs.Stamps.{Stamps, clock_of}
