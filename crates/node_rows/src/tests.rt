@@ -1,0 +1,16 @@
+// Nodes that do changes, take frames and turn, one event at a time.
+mod accepting;
+mod answers;
+mod defining;
+mod events;
+mod floor;
+mod logs;
+mod nodes;
+mod offered;
+mod offering;
+mod readers;
+mod reordering;
+mod rewiring;
+mod services;
+mod waiting;
+mod written;
