@@ -26,11 +26,25 @@ one_front held a b p q =
     let size : length a ≡ length b = sym (front_size held a p) ∙ front_size held b q in
     sym (take_at a (drop (length a + 2) held) (length a) refl) ∙ ap (λ bs. take (length a) (drop 2 bs)) (sym p.whole ∙ q.whole) ∙ take_at b (drop (length b + 2) held) (length a) (sym size)
 
-no_frame_once : (item : List ℕ) (m n : ℕ) (why other : FrameReason) → IsNoFrame item m why → IsNoFrame item n other → (m ≡ n) × (why ≡ other)
+-- bytes that are not just a frame are so in one way
+pub no_frame_once : (item : List ℕ) (m n : ℕ) (why other : FrameReason) → IsNoFrame item m why → IsNoFrame item n other → (m ≡ n) × (why ≡ other)
 no_frame_once item m n why other (inl p) (inl q) = bad_once item m n why other p q
 no_frame_once item m n why other (inl p) (inr q) = absurd (p.none n (q.frame, q.front.frame_of))
 no_frame_once item m n why other (inr p) (inl q) = absurd (q.none m (p.frame, p.front.frame_of))
 no_frame_once item m n why other (inr p) (inr q) = ((same_front item p.frame q.frame m n p.front q.front).1, p.rest ∙ sym q.rest)
+
+-- and none that are one are so
+pub frame_is_one : (item : List ℕ) (frame : Frame) (place : ℕ) (why : FrameReason) → FrameOf frame item → IsNoFrame item place why → ⊥
+frame_is_one item frame place why is no_frame = go no_frame
+  where
+    all : FrameOf frame (take (length item) item)
+    all = record { within = is.within; fits = is.fits; is = take_all (length item) item (omega arith) ∙ is.is }
+
+    go : IsNoFrame item place why → ⊥
+    go (inl bad) = bad.none (length item) (frame, all)
+    go (inr longer) =
+        let front : IsAtFront item frame (length item) = record { fits = omega arith; frame_of = all } in
+        omega (arith, longer.longer, (same_front item longer.frame frame place (length item) longer.front front).1)
 
 pub wrong_once : (held : List ℕ) (m n : ℕ) (why other : FrameReason) → IsWrongNext held m why → IsWrongNext held n other → (m ≡ n) × (why ≡ other)
 wrong_once held m n why other (inl p) (inl q) = (p.start ∙ sym q.start, p.length_is ∙ sym q.length_is)
@@ -70,15 +84,8 @@ wrong_is_none old new frame place why a w =
       fits = frame_length frame (a.frame_of.within, a.frame_of.fits);
     } in by w front
   where
-    whole : (item : List ℕ) → frame_bytes frame ≡ item → FrameOf frame (take (length item) item)
-    whole item e = record { within = a.frame_of.within; fits = a.frame_of.fits; is = take_all (length item) item (omega arith) ∙ sym e }
-
-    whole_item : (item : List ℕ) → IsNoFrame item place why → frame_bytes frame ≡ item → ⊥
-    whole_item item (inl bad) e = bad.none (length item) (frame, whole item e)
-    whole_item item (inr longer) e =
-        let all : IsAtFront item frame (length item) = record { fits = omega arith; frame_of = whole item e } in
-        omega (arith, longer.longer, (same_front item longer.frame frame place (length item) longer.front all).1)
-
     by : IsWrongNext old.held place why → IsFront old.held (frame_bytes frame) → ⊥
     by (inl p) front = omega (arith, p.too_long.1, front_size old.held (frame_bytes frame) front, front.fits)
-    by (inr p) front = whole_item p.item p.no_frame (one_front old.held (frame_bytes frame) p.item front p.front)
+    by (inr p) front =
+        let same : p.item ≡ frame_bytes frame = one_front old.held p.item (frame_bytes frame) p.front front in
+        frame_is_one p.item frame place why (record { within = a.frame_of.within; fits = a.frame_of.fits; is = same }) p.no_frame

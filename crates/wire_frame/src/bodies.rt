@@ -1,25 +1,26 @@
 // What stands behind the kind of a frame.
-ghost use Rattle.std.specs.Prelude.{◌≡◌, ◌≤◌, length, IfOk, IfErr};
+ghost use Rattle.std.specs.Prelude.{◌≡◌, ◌≢◌, ◌≤◌, length, IfOk, IfErr};
 ghost use Rattle.wire_frame.specs.Bodies.{announced_body, cargo_body, delta_body, of_announced, of_cargo, of_delta};
 ghost use Rattle.wire_frame.specs.Fields.{frame_reason};
-ghost use Rattle.wire_frame.specs.LentFrames.{delta_in};
+ghost use Rattle.wire_frame.specs.LentFrames.{announced_in, delta_in};
 ghost use Rattle.wire_frame.specs.Parts.{Stands, Fails, value_part};
 
 use crate::lists::{read_clocks, read_keys, read_places};
 use crate::numbers::read_clock;
-use crate::{Announced, Cargo, DeltaIn, FrameError, FrameReason};
+use crate::{AnnouncedIn, Cargo, DeltaIn, FrameError, FrameReason};
 use std::alloc::Global;
 use svc_value::{Value, ValueError, ValueReason, take_value};
 
-/// An epoch with the keys under it, and where they end; `Bad` where there are none.
-pub(crate) fn read_announced(alloc: Global, bytes: &[u8]) -> Result<(Announced, usize), FrameError>
+/// An epoch with the keys under it, which are lent, and where they end; `Bad` where there are none. No memory is taken.
+pub(crate) fn read_announced(bytes: &[u8]) -> Result<(AnnouncedIn<'_>, usize), FrameError>
     requires { 1 ≤ length bytes.now }
-    ensures announced { IfOk result (λ read. Stands announced_body (of_announced read.0) bytes.now 1 read.1) }
+    ensures announced { IfOk result (λ read. Stands announced_body (of_announced (announced_in read.0)) bytes.now 1 read.1) }
     ensures bad { IfErr result (λ e. Fails announced_body bytes.now 1 e) }
+    ensures memory { IfErr result (λ e. e ≢ FrameError.OutOfMemory) }
 {
     let epoch = read_clock(bytes, 1, FrameReason::Epoch)?;
-    let (keys, end) = read_keys(alloc, bytes, 5)?;
-    Ok((Announced { epoch, keys }, end))
+    let (keys, end) = read_keys(bytes, 5)?;
+    Ok((AnnouncedIn { epoch, keys }, end))
 }
 
 /// An epoch, a value and clocks, and where they end; `Bad` where there are none.

@@ -1,8 +1,8 @@
 // The messages between services, as they stand in their bytes.
-use crate::{Announced, Cargo, PlacesIn};
+use crate::{Cargo, KeysIn, PlacesIn};
 use svc_value::{Clock, Value};
 
-/// A frame whose places are lent by the bytes that it was read from. Its cases are those of `Frame`.
+/// A frame whose keys and places are lent by the bytes that it was read from. Its cases are those of `Frame`.
 #[derive(Drop)]
 pub enum FrameIn<'a> {
     /// The sender reads from now on, under this epoch.
@@ -10,11 +10,20 @@ pub enum FrameIn<'a> {
     /// The sender no longer reads under this epoch.
     Unsubscribe(Clock),
     /// The keys of the stamps of the values to come.
-    Sources(Announced),
+    Sources(AnnouncedIn<'a>),
     /// A value of version 1.
     Carried(Cargo),
     /// A value of version 2.
     Changed(DeltaIn<'a>),
+}
+
+/// The keys of stamps, announced under an epoch, which their bytes lend.
+#[derive(Drop)]
+pub struct AnnouncedIn<'a> {
+    /// The epoch, at least 1.
+    pub epoch: Clock,
+    /// The keys, strictly rising, from 1 to 64 of them.
+    pub keys: KeysIn<'a>,
 }
 
 /// A value with the clocks of some of its keys, which its bytes lend.

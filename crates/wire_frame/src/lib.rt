@@ -10,6 +10,7 @@ mod frame_in;
 mod frame_laws;
 mod framer;
 mod front;
+mod keys_in;
 mod lists;
 mod numbers;
 mod place_clock;
@@ -26,11 +27,12 @@ mod write;
 pub use cutter::Cutter;
 pub use errors::{CutError, FrameError, StreamError};
 pub use frame::{Announced, Cargo, Delta, Frame};
-pub use frame_in::{DeltaIn, FrameIn};
+pub use frame_in::{AnnouncedIn, DeltaIn, FrameIn};
 pub use frame_laws::{
     frames_are_short, frames_are_told, fronts_are_told, messages_are_told, wrong_frames_stay,
 };
 pub use framer::Framer;
+pub use keys_in::KeysIn;
 pub use place_clock::{PlaceClock, PlaceClocks};
 pub use places_in::PlacesIn;
 pub use read::{read_frame, read_lent};

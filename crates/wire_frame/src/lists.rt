@@ -5,21 +5,22 @@ ghost use Rattle.wire_frame.specs.Parts.{Stands, Fails};
 ghost use Rattle.wire_frame.specs.Runs.{item_part, run_part, key_items, clock_items, place_items};
 
 use crate::numbers::{read_byte, read_clock, read_key};
-use crate::{FrameError, FrameReason, PlaceClock, PlacesIn};
+use crate::{FrameError, FrameReason, KeysIn, PlaceClock, PlacesIn};
 use std::alloc::Global;
-use svc_value::{Clocks, Ids, ServiceId};
+use svc_value::Clocks;
 
 /// The most keys, clocks or places of a frame.
 const MOST: u8 = 64;
 
-/// The keys from `at` on behind their number, and where they end; `Bad` where there are none.
-pub(crate) fn read_keys(alloc: Global, bytes: &[u8], at: usize) -> Result<(Ids, usize), FrameError>
+/// The keys from `at` on behind their number, lent, and where they end; `Bad` where there are none. No memory is taken.
+pub(crate) fn read_keys(bytes: &[u8], at: usize) -> Result<(KeysIn<'_>, usize), FrameError>
     requires { at ≤ length bytes.now }
     ensures keys { IfOk result (λ read. Stands (counted key_items 1) (length read.0, read.0) bytes.now at read.1) }
     ensures bad { IfErr result (λ e. Fails (counted key_items 1) bytes.now at e) }
+    ensures memory { IfErr result (λ e. e ≢ FrameError.OutOfMemory) }
 {
     let count = read_byte(bytes, at, FrameReason::Count, 1, MOST)?;
-    let keys = keys_of(alloc, bytes, at + 1, count)?;
+    let keys = keys_of(bytes, at + 1, count)?;
     Ok((keys, at + 1 + 2 * usize::from(count)))
 }
 
@@ -50,24 +51,23 @@ pub(crate) fn read_places(bytes: &[u8], at: usize) -> Result<(PlacesIn<'_>, usiz
     Ok((clocks, at + 1 + 5 * usize::from(count)))
 }
 
-// The `count` keys from `at` on, strictly rising.
-fn keys_of(alloc: Global, bytes: &[u8], at: usize, count: u8) -> Result<Ids, FrameError>
+// The `count` keys from `at` on, strictly rising, lent.
+fn keys_of(bytes: &[u8], at: usize, count: u8) -> Result<KeysIn<'_>, FrameError>
     requires there { at ≤ length bytes.now }
     requires most { count ≤ 64 }
     ensures keys { IfOk result (λ keys. Stands (run_part key_items 0 count) keys bytes.now at (at + 2 * count)) }
     ensures bad { IfErr result (λ e. Fails (run_part key_items 0 count) bytes.now at e) }
+    ensures memory { IfErr result (λ e. e ≢ FrameError.OutOfMemory) }
 {
-    let mut keys = Vec::with_capacity(alloc, usize::from(count))?;
     let mut least = 0;
     let mut to = at;
     for i in 0..count {
         let left = count - 1 - i;
         let key = read_key(bytes, to, least, 65535 - u32::from(left))?;
-        keys.push_reserved(ServiceId(key));
         least = u32::from(key) + 1;
         to += 2;
     }
-    Ok(Ids::from_vec(keys))
+    Ok(KeysIn::new(&bytes[at..to]))
 }
 
 // The `count` clocks from `at` on.

@@ -41,6 +41,7 @@ pub(crate) fn read_byte(
     requires some { least ≤ most }
     ensures byte { IfOk result (λ byte. Stands (byte_part field least most) byte bytes.now at (at + 1)) }
     ensures bad { IfErr result (λ e. Fails (byte_part field least most) bytes.now at e) }
+    ensures memory { IfErr result (λ e. e ≢ FrameError.OutOfMemory) }
 {
     match &bytes[at..] {
         [byte, ..] if least <= *byte && *byte <= most => Ok(*byte),
@@ -62,6 +63,7 @@ pub(crate) fn read_key(bytes: &[u8], at: usize, least: u32, most: u32) -> Result
     requires small { most < 2 ^ 16 }
     ensures key { IfOk result (λ key. Stands (key_part least most) key bytes.now at (at + 2)) }
     ensures bad { IfErr result (λ e. Fails (key_part least most) bytes.now at e) }
+    ensures memory { IfErr result (λ e. e ≢ FrameError.OutOfMemory) }
 {
     let [first, rest @ ..] = &bytes[at..] else {
         return Err(FrameError::Bad {

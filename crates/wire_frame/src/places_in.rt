@@ -82,6 +82,11 @@ impl<'a> Iterator for PlacesIn<'a> {
         self.bytes = &bytes[5..];
         Some(named)
     }
+
+    fn size_hint(&self) -> (usize, Option<usize>) {
+        let len = self.len();
+        (len, Some(len))
+    }
 }
 
 // The place in front of the bytes with its clock; none where there are less than five.

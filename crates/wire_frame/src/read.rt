@@ -6,7 +6,7 @@ ghost use Rattle.wire_frame.specs.Taking.{IsAtFront, IsRefused};
 
 use crate::bodies::{read_announced, read_cargo, read_delta};
 use crate::numbers::read_clock;
-use crate::{Delta, Frame, FrameError, FrameIn, FrameReason};
+use crate::{Announced, Delta, Frame, FrameError, FrameIn, FrameReason};
 use std::alloc::Global;
 use svc_value::OutOfMemory;
 
@@ -24,15 +24,15 @@ pub fn read_frame(alloc: Global, bytes: &[u8]) -> Result<(Frame, usize), FrameEr
     Ok((owned(alloc, frame)?, len))
 }
 
-/// The frame that `bytes` begin with, and how many bytes it has, as `read_frame` answers it; but the bytes lend the places
-/// of a value of version 2, for which no memory is taken. Its text, and the lists of keys and of clocks of the other kinds,
-/// are put into memory of `alloc`. `Bad` exactly where `read_frame` refuses, with the same place and reason. `OutOfMemory`
-/// for want of memory, which only frames with a value or a list take.
+/// The frame that `bytes` begin with, and how many bytes it has, as `read_frame` answers it; but the bytes lend the keys of
+/// Sources and the places of a value of version 2, for which no memory is taken. The text of a value, and the clocks of one
+/// of version 1, are put into memory of `alloc`. `Bad` exactly where `read_frame` refuses, with the same place and reason.
+/// `OutOfMemory` for want of memory, which only frames with a value take.
 pub fn read_lent(alloc: Global, bytes: &[u8]) -> Result<(FrameIn<'_>, usize), FrameError>
     ensures ok { IfOk result (λ read. IsAtFront bytes.now (frame_in read.0) read.1) }
     ensures bad { IfErr result (IsRefused bytes.now) }
     ensures memory { result ≡ Err FrameError.OutOfMemory →
-        (3 ≤ slice_index bytes.now 0) × (slice_index bytes.now 0 ≤ 5) }
+        (4 ≤ slice_index bytes.now 0) × (slice_index bytes.now 0 ≤ 5) }
 {
     match bytes {
         [1, ..] => Ok((
@@ -44,7 +44,7 @@ pub fn read_lent(alloc: Global, bytes: &[u8]) -> Result<(FrameIn<'_>, usize), Fr
             5,
         )),
         [3, ..] => {
-            let (announced, len) = read_announced(alloc, bytes)?;
+            let (announced, len) = read_announced(bytes)?;
             Ok((FrameIn::Sources(announced), len))
         }
         [4, ..] => {
@@ -66,15 +66,19 @@ pub fn read_lent(alloc: Global, bytes: &[u8]) -> Result<(FrameIn<'_>, usize), Fr
     }
 }
 
-// The frame with lists of its own; only a value of version 2 takes memory.
+// The frame with lists of its own; only keys and a value of version 2 take memory.
 fn owned(alloc: Global, frame: FrameIn<'_>) -> Result<Frame, OutOfMemory>
     ensures ok { IfOk result (λ owned. owned ≡ frame_in frame.entry) }
-    ensures memory { OnErr result (slice_index (frame_bytes (frame_in frame.entry)) 0 ≡ 5) }
+    ensures memory { OnErr result (
+        (slice_index (frame_bytes (frame_in frame.entry)) 0 ≡ 3) ⊎ (slice_index (frame_bytes (frame_in frame.entry)) 0 ≡ 5)) }
 {
     match frame {
         FrameIn::Subscribe(epoch) => Ok(Frame::Subscribe(epoch)),
         FrameIn::Unsubscribe(epoch) => Ok(Frame::Unsubscribe(epoch)),
-        FrameIn::Sources(announced) => Ok(Frame::Sources(announced)),
+        FrameIn::Sources(announced) => Ok(Frame::Sources(Announced {
+            epoch: announced.epoch,
+            keys: announced.keys.to_list(alloc)?,
+        })),
         FrameIn::Carried(cargo) => Ok(Frame::Carried(cargo)),
         FrameIn::Changed(delta) => Ok(Frame::Changed(Delta {
             epoch: delta.epoch,

@@ -1,3 +1,4 @@
 mod bytes;
 mod cutter;
+mod lent;
 mod streams;

@@ -1,6 +1,6 @@
 use crate::{
-    Frame, FrameError, FrameIn, FrameReason, PlaceClock, read_frame, read_lent, write_frame,
-    write_sources, write_value,
+    Frame, FrameError, FrameReason, PlaceClock, read_frame, read_lent, write_frame, write_sources,
+    write_value,
 };
 use std::alloc::Global;
 use std::test::Fail;
@@ -199,37 +199,6 @@ fn bent_frames_lend_as_they_are_read(rt: HostRuntime) -> Result<(), Fail> {
             "byte {at} as {byte} in {frame:?}"
         );
     }
-    Ok(())
-}
-
-#[test]
-fn lent_frames_have_their_parts(rt: HostRuntime) -> Result<(), Fail> {
-    let bytes = [5, 0, 0, 0, 9, 3, 1, 2, 0, 0, 0, 0, 1, 63, 1, 2, 3, 4, 0xff];
-    let (frame, len) = read_lent(rt.alloc(), &bytes)?;
-    assert_eq!(rt; len, 18);
-    let FrameIn::Changed(delta) = frame else {
-        return Err("no value".into());
-    };
-    let epoch = delta.epoch;
-    assert_eq!(rt; epoch.0, 9);
-    assert!(rt; matches!(delta.value, Value::Bad(Fault::Overflow)));
-    let clocks = delta.clocks;
-    assert_eq!(rt; clocks.len(), 2);
-    let mut at = 0;
-    for named in clocks.iter() {
-        assert!(rt; at < clocks.len());
-        assert_eq!(rt; named, clocks.at(at));
-        at += 1;
-    }
-    assert_eq!(rt; at, 2);
-    let list = clocks.to_list(rt.alloc())?;
-    let [first, second] = list.as_slice() else {
-        return Err("not two places".into());
-    };
-    let (first, second): (PlaceClock, PlaceClock) = (*first, *second);
-    let (one, two) = (first.clock, second.clock);
-    assert_eq!(rt; (first.place, one.0), (0, 1));
-    assert_eq!(rt; (second.place, two.0), (63, 0x0102_0304));
     Ok(())
 }
 

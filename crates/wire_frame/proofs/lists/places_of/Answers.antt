@@ -3,7 +3,7 @@ use Rattle.std.proofs.lemmas.Result.{err_from_is_err_and}
 use Rattle.wire_frame.specs.declared.place_clock.PlaceClock.{PlaceClock}
 use Rattle.wire_frame.specs.Parts.{Stands}
 use Rattle.wire_frame.specs.Runs.{place_items, run_part}
-use Rattle.wire_frame.proofs.Lending.{named_stands}
+use Rattle.wire_frame.proofs.Lending.{named_lent, lent_stand}
 use Rattle.wire_frame.proofs.Reading.{IsReading, reading_starts, reading_steps, reading_fails, reading_ends}
 use Rattle.wire_frame.proofs.Readable.{places_readable}
 use Rattle.wire_frame.proofs.lists.places_of.Goals as goal
@@ -52,7 +52,7 @@ returns-clause-places c =
     let bytes = c.args.bytes.now in
     let at = c.args.at in
     let ends = reading_ends place_items 0 count bytes at c.loop-i.invariant.done c.loop-i.least (count - c.loop-i.i) c.loop-i.to c.loop-i.invariant.reading (omega arith) in
-    let named = named_stands count c.loop-i.invariant.done bytes at c.loop-i.to ends in
+    let named = lent_stand named_lent count c.loop-i.invariant.done bytes at c.loop-i.to ends in
     let told = subst (λ (xs : List PlaceClock). Stands (run_part place_items 0 count) xs bytes at c.loop-i.to) (sym c.new.ensures) named in
     let all : c.loop-i.to ≡ at + 5 * count = omega arith in
     subst (λ n. Stands (run_part place_items 0 count) c.new.result bytes at n) all told

@@ -5,7 +5,7 @@ use Rattle.wire_frame.specs.declared.errors.FrameError.TheVariants as error
 use Rattle.wire_frame.specs.declared.frame.Frame.TheVariants.{Subscribe, Unsubscribe}
 use Rattle.wire_frame.specs.declared.reason.FrameReason.TheVariants.{Short, Kind, Epoch}
 use Rattle.wire_frame.specs.Bodies.{announced_body, cargo_body, delta_body, of_announced, of_cargo, of_delta}
-use Rattle.wire_frame.specs.LentFrames.{delta_in}
+use Rattle.wire_frame.specs.LentFrames.{announced_in, delta_in}
 use Rattle.wire_frame.specs.Parts.{clock_part}
 use Rattle.wire_frame.proofs.Told.{front_of, refused_of}
 use Rattle.wire_frame.proofs.Whole.{kind_fails, kind_stands_whole, nothing_fails, kind_wrong, subscribe_kind, unsubscribe_kind, sources_kind, carried_kind, changed_kind, sources_of, carried_of, changed_of}
@@ -54,7 +54,7 @@ returns-in_err-delta-in-5-clause-bad c =
 pub returns-in_ok-announced-in-3-clause-ok : goal.returns-in_ok-announced-in-3-clause-ok
 returns-in_ok-announced-in-3-clause-ok c =
     let bytes = c.args.bytes.now in
-    let x = of_announced c.in_ok-announced-in-3.announced in
+    let x = of_announced (announced_in c.in_ok-announced-in-3.announced) in
     let first : get_or bytes 0 0 ≡ 3 = omega arith in
     front_of bytes (sources_of x) c.in_ok-announced-in-3.len (kind_stands_whole 3 announced_body sources_of bytes c.in_ok-announced-in-3.len x sources_kind (omega arith) first c.in_ok-announced-in-3.ensures.announced)
 
