@@ -1,7 +1,8 @@
 -- A table as stamps.
-use Rattle.std.proofs.Common.{◌≡◌, ℕ, zero, suc, ◌+◌, ◌<◌, ◌≤◌, max, ltb, List, [], ◌∷◌, length, get_or, set, Some, true, false, is_lt, nat_cmp, refl, sym, ap, ap₂, subst, ◌∙◌, inl, inr, arith, ◌==◌, get_or-set_same, get_or-set_other, length-set}
+use Rattle.std.proofs.Common.{◌≡◌, ℕ, zero, suc, ◌+◌, ◌<◌, ◌≤◌, max, ltb, List, [], ◌∷◌, length, get_or, set, Some, true, false, is_lt, nat_cmp, refl, sym, ap, ap₂, subst, ◌∙◌, inl, inr, arith, ◌==◌, get_or-set_same, get_or-set_other, length-set, All}
 use Rattle.std.proofs.lemmas.Bool.{cases_Bool, cases_eq, cases_lt, cond-true, cond-false, eqb-false}
 use Rattle.std.proofs.lemmas.Bool.Decides.{nat_tests}
+use Rattle.std.proofs.lemmas.List.Elements.{All-nil, All-cons}
 use Rattle.propagation.specs.Words.{Has}
 use Rattle.propagation.specs.Stamps.{Stamps, clock_of, IsRising}
 use Rattle.service_machine.specs.States.{raise, raise_one}
@@ -32,6 +33,19 @@ risen-rising first (clock ∷ rest) =
       | inr t ↦ subst (λ stamps. IsRising first stamps) (sym (cond-false (clock == 0) (risen (suc first) rest) ((first, clock) ∷ risen (suc first) rest) t))
           (omega arith, (let some : clock ≡ 0 → ⊥ = eqb-false clock 0 t in omega arith), risen-rising (suc first) rest)
     ]
+
+risen-within : (first n : ℕ) (clocks : List ℕ) → first + length clocks ≤ n → All {X = ℕ × ℕ} (λ pair. pair.0 < n) (risen first clocks)
+risen-within first n [] le = All-nil {X = ℕ × ℕ} (λ pair. pair.0 < n)
+risen-within first n (clock ∷ rest) le =
+    elim (cases_Bool (clock == 0)) [
+      | inl t ↦ subst (λ (S : Stamps). All {X = ℕ × ℕ} (λ pair. pair.0 < n) S) (sym (cond-true (clock == 0) (risen (suc first) rest) ((first, clock) ∷ risen (suc first) rest) t)) (risen-within (suc first) n rest (omega arith))
+      | inr t ↦ subst (λ (S : Stamps). All {X = ℕ × ℕ} (λ pair. pair.0 < n) S) (sym (cond-false (clock == 0) (risen (suc first) rest) ((first, clock) ∷ risen (suc first) rest) t))
+          (All-cons {X = ℕ × ℕ} (λ pair. pair.0 < n) (first, clock) (risen (suc first) rest) (omega arith) (risen-within (suc first) n rest (omega arith)))
+    ]
+
+-- the clocks of 64 services
+pub risen-stamps : (clocks : List ℕ) → length clocks ≡ 64 → AreStamps (risen 0 clocks)
+risen-stamps clocks all = record { rising = risen-rising 0 clocks; below = risen-within 0 64 clocks (omega arith) }
 
 -- the clock of a service below 64
 pub floor-clock : (clocks : List ℕ) (i d : ℕ) → i < length clocks → clock_of (risen 0 clocks) i ≡ get_or clocks i d

@@ -1,43 +1,85 @@
 -- Agreement and union, key by key.
-use Rattle.std.proofs.Common.{◌≡◌, ◌⊎◌, ◌↔◌, ℕ, suc, ◌<◌, ◌≤◌, max, List, [], ◌∷◌, map, length, All, refl, sym, ap, subst, ◌∙◌, inl, inr, arith}
+use Rattle.std.proofs.Common.{◌≡◌, ◌⊎◌, ◌↔◌, ℕ, suc, ◌+◌, ◌<◌, ◌≤◌, max, List, [], ◌∷◌, ◌++◌, map, length, All, refl, sym, ap, ap₂, subst, ◌∙◌, inl, inr, arith}
 use Rattle.std.proofs.lemmas.Bool.{cases_lt}
+use Rattle.std.proofs.lemmas.List.{map-append}
 use Rattle.std.proofs.lemmas.List.Elements.{All-nil, All-cons}
 use Rattle.std.specs.List.{zip}
 use Rattle.propagation.specs.Words.{Has}
 use Rattle.propagation.specs.Stamps.{Stamps, clock_of, IsRising, Rise, Agree}
 use Rattle.service_machine.specs.States.{raise}
-use Rattle.service_machine.proofs.Raising.{clock-this, clock-other, raise-rising, raise-clock, rising-same}
+use Rattle.service_machine.proofs.Raising.{clock-this, clock-other, clock-below, raise-rising, raise-clock, rising-same, rising-weaker}
 use Rattle.stamp_clock.specs.Places.{AreKeys}
 use Rattle.stamp_clock.specs.Beside.{AreBeside}
-use Rattle.stamp_clock.proofs.RiseLemmas.{rise-least}
+use Rattle.stamp_clock.proofs.RiseLemmas.{rise-least, rise-from}
 use Rattle.stamp_clock.proofs.BesideLemmas.{clock-missing, clock-positive, has-clock, rising-beside}
 
--- those that are left are keys of both, and on the other keys of both the two agree
-pub record AgreeBut (left : List ℕ) (S R : Stamps) : Type 0 where
-  pub common : (q : ℕ) → Has left q → (0 < clock_of S q) × (0 < clock_of R q)
-  pub seen : (q : ℕ) → 0 < clock_of S q → 0 < clock_of R q → (clock_of S q ≡ clock_of R q) ⊎ Has left q
+-- ---- walks over two stamps, key by key
 
-pub agree-start : (ks cs ls ds left : List ℕ) (S R : Stamps) → AreBeside ks cs → AreBeside ls ds → zip ks cs ≡ S → zip ls ds ≡ R → ((q : ℕ) → Has left q ↔ (Has ks q × Has ls q)) → AgreeBut left S R
-agree-start ks cs ls ds left S R a b s r both =
-    subst (λ (T : Stamps). AgreeBut left T R) s
-    (subst (λ (T : Stamps). AgreeBut left (zip ks cs) T) r
-    record {
-      common = λ q h. (clock-positive ks cs q a.lengths a.positive ((both q).0 h).0, clock-positive ls ds q b.lengths b.positive ((both q).0 h).1);
-      seen = λ q s r. inr ((both q).1 (has-clock ks cs q s, has-clock ls ds q r));
-    })
+-- the keys that are left rise, and the pairs that are left are those of stamps at these keys
+pub record IsRest (left : List ℕ) (S now : Stamps) : Type 0 where
+  pub rise : Rise 0 left
+  pub rising : IsRising 0 now
+  pub within : (q : ℕ) → 0 < clock_of now q → Has left q
+  pub same : (q : ℕ) → Has left q → clock_of now q ≡ clock_of S q
 
-pub agree-step : (k : ℕ) (rest left : List ℕ) (S R : Stamps) → left ≡ k ∷ rest → AgreeBut left S R → clock_of S k ≡ clock_of R k → AgreeBut rest S R
-agree-step k rest left S R at but same =
+pub rest-start : (left keys : List ℕ) (S now : Stamps) → left ≡ keys → AreKeys keys → IsRising 0 S → ((q : ℕ) → 0 < clock_of S q → Has keys q) → now ≡ S → IsRest left S now
+rest-start left keys S now at are rising within is =
+    subst (λ (T : Stamps). IsRest left S T) (sym is)
+    (subst (λ (ks : List ℕ). IsRest ks S S) (sym at) record { rise = are.rise; rising = rising; within = within; same = λ q h. refl })
+
+rising-from : (a k : ℕ) (S : Stamps) → IsRising a S → ((q : ℕ) → 0 < clock_of S q → k ≤ q) → IsRising k S
+rising-from a k [] r least = tt
+rising-from a k (x ∷ rest) r least = (least x.0 (subst (λ c. 0 < c) (sym (clock-this x.0 x.1 rest x.0 refl)) r.1), r.1, r.2)
+
+-- no pair that is left is below the next key
+pub rest-first : (k : ℕ) (rest left : List ℕ) (S now : Stamps) → left ≡ k ∷ rest → IsRest left S now → IsRising k now
+rest-first k rest left S now at is =
+    let rise : Rise 0 (k ∷ rest) = subst (λ (ks : List ℕ). Rise 0 ks) at is.rise in
+    rising-from 0 k now is.rising (λ q h. rise-least k (k ∷ rest) q (omega arith, rise.1) (subst (λ (ks : List ℕ). Has ks q) at (is.within q h)))
+
+-- which has no clock where it is not the first
+pub clock-before : (k : ℕ) (x : ℕ × ℕ) (rest S : Stamps) → S ≡ x ∷ rest → IsRising k S → (x.0 ≡ k → ⊥) → clock_of S k ≡ 0
+clock-before k x rest S at r ne =
+    let first : IsRising k (x ∷ rest) = subst (λ (T : Stamps). IsRising k T) at r in
+    let le : k ≤ x.0 = first.0 in
+    ap (λ (T : Stamps). clock_of T k) at ∙ clock-below x.0 (x ∷ rest) k (omega arith, first.1, first.2) (omega arith)
+
+-- its pair is taken
+pub rest-next : (k : ℕ) (rest left : List ℕ) (S now new : Stamps) → left ≡ k ∷ rest → IsRest left S now → IsRising (k + 1) new → ((q : ℕ) → k < q → clock_of new q ≡ clock_of now q) → IsRest rest S new
+rest-next k rest left S now new at is rising others =
+    let rise : Rise 0 (k ∷ rest) = subst (λ (ks : List ℕ). Rise 0 ks) at is.rise in
     record {
-      common = λ q h. but.common q (subst (λ (ks : List ℕ). Has ks q) (sym at) (inr h));
-      seen = λ q s r. elim (but.seen q s r) [
-        | inl e ↦ inl e
-        | inr h ↦ elim (subst (λ (ks : List ℕ). Has ks q) at h) [ inl e ↦ inl (subst (λ j. clock_of S j ≡ clock_of R j) e same) | inr there ↦ inr there ]
+      rise = rise-from (suc k) 0 rest rise.1 (λ q h. omega arith);
+      rising = rising-weaker 0 (k + 1) new (omega arith) rising;
+      within = λ q h. elim (cases_lt k q) [
+        | inl lt ↦ elim (subst (λ (ks : List ℕ). Has ks q) at (is.within q (subst (λ c. 0 < c) (others q lt) h))) [ inl e ↦ absurd (omega arith) | inr there ↦ there ]
+        | inr ge ↦ absurd (let none : clock_of new q ≡ 0 = clock-below (k + 1) new q rising (omega arith) in omega arith)
       ];
+      same = λ q h.
+          let more : suc k ≤ q = rise-least (suc k) rest q rise.1 h in
+          others q (omega arith) ∙ is.same q (subst (λ (ks : List ℕ). Has ks q) (sym at) (inr h));
     }
 
+-- the clock of the next key
+pub rest-clock : (k : ℕ) (rest left : List ℕ) (S now : Stamps) (n : ℕ) → left ≡ k ∷ rest → IsRest left S now → n ≡ clock_of now k → n ≡ clock_of S k
+rest-clock k rest left S now n at is clock = clock ∙ is.same k (subst (λ (ks : List ℕ). Has ks k) (sym at) (inl refl))
+
+-- on the keys that are not left the two agree
+abbrev pub AgreeBut : List ℕ → Stamps → Stamps → Type 0
+AgreeBut left S R = (q : ℕ) → 0 < clock_of S q → 0 < clock_of R q → (clock_of S q ≡ clock_of R q) ⊎ Has left q
+
+pub agree-step : (k : ℕ) (rest left : List ℕ) (S R : Stamps) → left ≡ k ∷ rest → AgreeBut left S R → (0 < clock_of S k → 0 < clock_of R k → clock_of S k ≡ clock_of R k) → AgreeBut rest S R
+agree-step k rest left S R at but same q s r =
+    elim (but q s r) [
+      | inl e ↦ inl e
+      | inr h ↦ elim (subst (λ (ks : List ℕ). Has ks q) at h) [
+        | inl e ↦ inl (subst (λ j. 0 < clock_of S j → 0 < clock_of R j → clock_of S j ≡ clock_of R j) e same s r)
+        | inr there ↦ inr there
+      ]
+    ]
+
 pub agree-end : (left : List ℕ) (S R : Stamps) → left ≡ [] → AgreeBut left S R → Agree S R
-agree-end left S R none but q s r = elim (but.seen q s r) [ inl e ↦ e | inr h ↦ absurd (subst (λ (ks : List ℕ). Has ks q) none h) ]
+agree-end left S R none but q s r = elim (but q s r) [ inl e ↦ e | inr h ↦ absurd (subst (λ (ks : List ℕ). Has ks q) none h) ]
 
 -- ---- keys with clocks that a function of the key gives
 
@@ -75,6 +117,11 @@ rising-is ks cs S are is = subst (λ (T : Stamps). IsRising 0 T) is (rising-besi
 module _ (S R : Stamps) where
   abbrev pub greater : ℕ → ℕ
   greater q = max (clock_of S q) (clock_of R q)
+
+  -- one key more
+  pub greater-next : (old new ks : List ℕ) (k n : ℕ) → new ≡ old ++ n ∷ [] → old ≡ map greater ks → n ≡ greater k → new ≡ map greater (ks ++ k ∷ [])
+  greater-next old new ks k n more before is =
+      more ∙ ap₂ (λ (xs : List ℕ) (x : ℕ). xs ++ x ∷ []) before is ∙ sym (map-append greater ks (k ∷ []))
 
   pub union-beside : (ks cs : List ℕ) → AreKeys ks → ((q : ℕ) → Has ks q ↔ ((0 < clock_of S q) ⊎ (0 < clock_of R q))) → cs ≡ map greater ks → AreBeside ks cs
   union-beside ks cs are some is =

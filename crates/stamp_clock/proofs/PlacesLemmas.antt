@@ -1,9 +1,9 @@
 -- The places of the bits of a word.
-use Rattle.std.proofs.Common.{◌≡◌, ◌≢◌, ℕ, zero, suc, ◌+◌, ◌-◌, ◌*◌, ◌%◌, ◌/◌, ◌^◌, ◌<◌, ◌≤◌, min, max, List, [], ◌∷◌, ◌++◌, length, get_or, refl, sym, ap, ap₂, ◌∙◌, subst, ◌⊎◌, ◌↔◌, inl, inr, arith, ◌==◌, eq-eqb, eqb-true, true, bit_and, bit_or, count_ones, length-append, IsTrue, nat_eq, nat_le, find, Some, None}
+use Rattle.std.proofs.Common.{◌≡◌, ◌≢◌, ℕ, zero, suc, ◌+◌, ◌-◌, ◌*◌, ◌%◌, ◌/◌, ◌^◌, ◌<◌, ◌≤◌, max, List, [], ◌∷◌, ◌++◌, length, get_or, refl, sym, ap, ◌∙◌, subst, ◌⊎◌, ◌↔◌, inl, inr, arith, ◌==◌, eq-eqb, eqb-true, true, bit_and, bit_or, count_ones, length-append, IsTrue, nat_eq, nat_le, find, Some, None}
 use Rattle.std.proofs.lemmas.Bool.{cond-true, cond-false, cases_Bool, eqb-false, cases_eq, cases_lt, leb-true, leb-false}
 use Rattle.std.proofs.lemmas.List.{get_or_append_left}
 use Rattle.std.proofs.lemmas.Nat.{ones_cat, shr-shr, shr_le, mod_below, pow_pos, and_le_l, and_mask, one_shl, or_lt}
-use Rattle.std.proofs.lemmas.Nat.Bits.{bit_at-lt, bit_at-zero, shr_and_one, bit_at_above, bit_at_and, bit_at_or, bit_at_set_same, bit_at_set_other, bit_at_clear_same, bit_at_clear_other, bit_at-trailing_zeros}
+use Rattle.std.proofs.lemmas.Nat.Bits.{bit_at-lt, bit_at-zero, shr_and_one, bit_at_above, bit_at_or, bit_at_set_same, bit_at_set_other, bit_at_clear_same, bit_at_clear_other, bit_at-trailing_zeros}
 use Rattle.std.proofs.Math.Nat.{mod-eq_of_lt}
 use Rattle.std.proofs.Math.Seq.{get_or-append_seam}
 use Rattle.std.specs.Int.Count.{ones}
@@ -173,17 +173,7 @@ places-clear word some fits =
       | inr k ↦ (let at = has-word rest q k in word-has word q fits (sym (other q at.0 (not_least q k)) ∙ at.1))
     ])
 
--- a bit of both, and of either
-both : (a b : ℕ) → a < 2 → b < 2 → min a b ≡ 1 → (a ≡ 1) × (b ≡ 1)
-both a b p q e = (omega arith, omega arith)
-
-pub places-and : (a b : ℕ) → a < 2 ^ 64 → b < 2 ^ 64 → (q : ℕ) → Has (places (bit_and a b)) q ↔ (Has (places a) q × Has (places b) q)
-places-and a b fa fb q = (
-  (λ h. (let at = has-word (bit_and a b) q h in let w = both (bit_at a q) (bit_at b q) (bit_at-lt a q) (bit_at-lt b q) (sym (bit_at_and a b q) ∙ at.1) in (word-has a q fa w.0, word-has b q fb w.1))),
-  (λ h. word-has (bit_and a b) q (let le : bit_and a b ≤ a = and_le_l a b in omega arith)
-      (let x = has-word a q h.0 in let y = has-word b q h.1 in bit_at_and a b q ∙ ap₂ (λ (m n : ℕ). min m n) x.1 y.1)),
-)
-
+-- a bit of either
 either : (a b : ℕ) → a < 2 → b < 2 → max a b ≡ 1 → (a ≡ 1) ⊎ (b ≡ 1)
 either a b p q e = elim (cases_eq a 1) [ inl y ↦ inl y | inr n ↦ inr (omega arith) ]
 

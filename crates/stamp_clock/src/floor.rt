@@ -3,6 +3,7 @@ ghost use Rattle.std.specs.Prelude.{◌≡◌, ◌↔◌, ◌<◌, [], IfOk, IfS
 ghost use Rattle.propagation.specs.Stamps.{clock_of};
 ghost use Rattle.service_machine.specs.States.{raise, raise_one as raised_one};
 ghost use Rattle.service_machine.specs.Turning.{lag};
+ghost use Rattle.stamp_clock.specs.Beside.{AreStamps};
 
 use crate::Stamps;
 use std::marker::Model;
@@ -89,12 +90,15 @@ impl Floor {
         None
     }
 
-    /// An equal floor. It never wants memory.
+    /// An equal floor. The keys of a floor rise and are below 64, and their clocks are at least 1. It never wants memory.
     pub fn copy(&self) -> Result<Floor, OutOfMemory>
         ensures copied { IfOk result (λ floor. floor ≡ self.now) }
         ensures ok { IsOk result }
+        ensures stamps { AreStamps self.now }
     {
-        Ok(*self)
+        Ok(Floor {
+            clocks: self.clocks,
+        })
     }
 
     // The greatest clock of a service, or 0.

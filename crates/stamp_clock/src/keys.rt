@@ -1,5 +1,5 @@
 // A set of services in one word.
-ghost use Rattle.std.specs.Prelude.{◌≡◌, ◌↔◌, ◌<◌, ◌≤◌, ◌⊎◌, All, length, find, nat_le, IsTrue, slice_index};
+ghost use Rattle.std.specs.Prelude.{◌≡◌, ◌↔◌, ◌<◌, ◌≤◌, ◌⊎◌, [], ◌∷◌, ◌++◌, All, length, find, nat_le, IsTrue, slice_index};
 ghost use Rattle.propagation.specs.Words.{Has};
 ghost use Rattle.propagation.specs.Stamps.{Rise};
 
@@ -32,17 +32,33 @@ impl Model for KeySet {
 impl KeySet {
     ghost use Rattle.stamp_clock.specs.Places.{AreKeys};
 
+    /// The set of no keys.
+    pub fn new() -> KeySet
+        ensures { result ≡ [] }
+    {
+        KeySet { word: 0 }
+    }
+
+    /// Adds `key`, which is below 64 and above every key of the set. It takes no memory.
+    pub fn push(&mut self, key: ServiceId)
+        requires below { key < 64 }
+        requires above { All (λ before. before < key) self.old }
+        ensures { self.new ≡ self.old ++ key ∷ [] }
+    {
+        self.word |= 1 << key.0;
+    }
+
     /// The set of these keys, which rise strictly and are below 64.
     pub fn of(keys: &[ServiceId]) -> KeySet
         requires rise { Rise 0 keys.now }
         requires below { All (λ key. key < 64) keys.now }
         ensures { result ≡ keys.now }
     {
-        let mut word = 0u64;
+        let mut set = KeySet::new();
         for key in keys {
-            word |= 1 << key.0;
+            set.push(*key);
         }
-        KeySet { word }
+        set
     }
 
     /// The number of keys.
@@ -96,15 +112,6 @@ impl KeySet {
             let _ = left.next();
         }
         left.next().unwrap()
-    }
-
-    /// The keys of both sets.
-    pub(crate) fn intersection(self, other: KeySet) -> KeySet
-        ensures { (q : _) → Has result q ↔ (Has self q × Has other q) }
-    {
-        KeySet {
-            word: self.word & other.word,
-        }
     }
 
     /// The keys of either set.

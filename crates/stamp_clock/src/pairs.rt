@@ -1,6 +1,7 @@
 // The pairs of stamps, one after the other.
-ghost use Rattle.std.specs.Prelude.{◌≡◌};
+ghost use Rattle.std.specs.Prelude.{◌≡◌, ◌<◌, ◌+◌};
 ghost use Rattle.std.specs.List.{zip};
+ghost use Rattle.propagation.specs.Stamps.{IsRising, clock_of};
 
 use crate::KeySet;
 use std::marker::Model;
@@ -28,6 +29,27 @@ impl<'a> Pairs<'a> {
         ensures { result ≡ zip keys clocks.now }
     {
         Pairs { keys, clocks }
+    }
+
+    // Takes the clock of `key`, or gives 0 where it is not the first key left. No key left may be below it.
+    pub(crate) fn take_clock(&mut self, key: ServiceId) -> Clock
+        requires { IsRising key self.old }
+        ensures clock { result ≡ clock_of self.old key }
+        ensures rising { IsRising (key + 1) self.new }
+        ensures others { (q : _) → key < q → clock_of self.new q ≡ clock_of self.old q }
+    {
+        let mut rest = Pairs {
+            keys: self.keys,
+            clocks: self.clocks,
+        };
+        let Some((first, clock)) = rest.next() else {
+            return Clock(0);
+        };
+        if first != key {
+            return Clock(0);
+        }
+        *self = rest;
+        clock
     }
 }
 

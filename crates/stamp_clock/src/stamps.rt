@@ -1,6 +1,7 @@
 // Stamps in dense form: one bit for each key, and the clocks alone in a list.
-ghost use Rattle.std.specs.Prelude.{◌≡◌, ◌↔◌, ◌<◌, [], ◌∷◌, All, map, max, length, find, nat_le, IsTrue, IfOk, IfSome, IsNone, slice_index};
+ghost use Rattle.std.specs.Prelude.{◌≡◌, ◌↔◌, ◌<◌, ◌⊎◌, [], ◌∷◌, All, map, max, length, find, nat_le, IsTrue, IfOk, IfSome, IsNone, slice_index};
 ghost use Rattle.std.specs.List.{zip};
+ghost use Rattle.propagation.specs.Words.{Has};
 ghost use Rattle.propagation.specs.Stamps.{Rise, Agree, clock_of, keys};
 ghost use Rattle.service_machine.specs.States.{raise};
 
@@ -155,8 +156,12 @@ impl Stamps {
     pub fn agrees(&self, other: &Stamps) -> bool
         ensures { IsTrue result ↔ Agree self.now other.now }
     {
-        for key in self.keys.intersection(other.keys) {
-            if self.clock(key) != other.clock(key) {
+        let mut pairs = self.iter();
+        let mut other_pairs = other.iter();
+        for key in self.keys.union(other.keys) {
+            let here = pairs.take_clock(key);
+            let there = other_pairs.take_clock(key);
+            if !clocks_agree(here, there) {
                 return false;
             }
         }
@@ -199,33 +204,35 @@ impl Stamps {
         })
     }
 
-    // The clock of a key.
-    fn clock(&self, key: ServiceId) -> Clock
-        requires { 0 < clock_of self.now key }
-        ensures { result ≡ clock_of self.now key }
-    {
-        self.clocks[self.keys.rank(key)]
-    }
-
-    // For each of the keys the greater clock of the two, where a missing one counts as 0.
+    // For each of `keys`, among which are all keys of either, the greater clock of the two, where a missing one counts as 0.
     fn greater_clocks(
         &self,
         other: &Stamps,
         keys: KeySet,
         memory: Clocks,
     ) -> Result<Vec<Clock>, OutOfMemory>
+        requires { (q : _) → (0 < clock_of self.now q) ⊎ (0 < clock_of other.now q) → Has keys q }
         ensures { IfOk result (λ clocks. clocks.items ≡ map (λ q. max (clock_of self.now q) (clock_of other.now q)) keys) }
     {
         let mut clocks = memory.into_vec();
         clocks.clear();
         clocks.reserve(keys.len())?;
+        let mut pairs = self.iter();
+        let mut other_pairs = other.iter();
         for key in keys {
-            let here = self.get(key).unwrap_or(Clock(0));
-            let there = other.get(key).unwrap_or(Clock(0));
+            let here = pairs.take_clock(key);
+            let there = other_pairs.take_clock(key);
             clocks.push(here.max(there))?;
         }
         Ok(clocks)
     }
+}
+
+// Whether two clocks are equal, or one of them is 0, as that of a missing key.
+fn clocks_agree(here: Clock, there: Clock) -> bool
+    ensures { IsTrue result ↔ (0 < here → 0 < there → here ≡ there) }
+{
+    here == Clock(0) || there == Clock(0) || here == there
 }
 
 // The clocks, in the memory of a list whose own are forgotten.

@@ -1,6 +1,5 @@
-use Rattle.std.proofs.Common.{◌≡◌, ◌<◌, ◌^◌, take}
-use Rattle.stamp_clock.specs.Places.{places}
+use Rattle.std.proofs.Common.{◌≡◌, take}
 use Rattle.stamp_clock.proofs.keys.KeySet.of.Given as goal
 
 abbrev pub invariant-loop-key : goal.invariant-loop-key
-invariant-loop-key l = (l.word < 2 ^ 64) × (places l.word ≡ take l.key-index l.keys)
+invariant-loop-key l = l.set ≡ take l.key-index l.keys
