@@ -1,7 +1,8 @@
 // The keys that a sender announced last, and the clocks that it carried for them.
 ghost use Rattle.std.specs.Prelude.{◌≡◌, ◌<◌, ◌≤◌, ◌+◌, [], All, None, Some, length, replicate, unwrap_or, vec_len, vec_capacity, OnOk, OnErr, IfOk, IfErr, IsSome, IsTrue};
-ghost use Rattle.propagation.specs.Stamps.{Rise, RisePairs};
+ghost use Rattle.propagation.specs.Stamps.{RisePairs};
 ghost use Rattle.service_machine.specs.Refusing.{refuse_put, bad_place};
+ghost use Rattle.stamp_clock.specs.Places.{AreKeys};
 ghost use Rattle.wire_frame.specs.Frames.{pairs};
 ghost use Rattle.pred_queue.specs.Told.{rewritten, items_in};
 
@@ -10,7 +11,7 @@ use crate::lent::Lent;
 use stamp_clock::{KeySet, Stamps};
 use std::alloc::Global;
 use std::marker::Model;
-use svc_value::{Clock, Clocks, OutOfMemory, ServiceId};
+use svc_value::{Clock, Clocks, OutOfMemory};
 
 /// The epoch and the keys announced last, with the clocks that were carried for them last, or none.
 #[derive(Debug, Drop)]
@@ -39,15 +40,14 @@ impl Announced {
     ghost use Rattle.pred_queue.specs.Told.{told_more};
     ghost use Rattle.pred_queue.specs.Refusals.{refusal_in, refusal_of};
 
-    // Keys that rise strictly and are below 64, with nothing carried for them.
-    pub(crate) fn new(epoch: Clock, keys: &[ServiceId]) -> Announced
-        requires rise { Rise 0 keys.now }
-        requires below { All (λ key. key < 64) keys.now }
-        ensures { result ≡ record { epoch = epoch; keys = keys.now; carried = None } }
+    // Keys with nothing carried for them.
+    pub(crate) fn new(epoch: Clock, keys: KeySet) -> Announced
+        requires { AreKeys keys }
+        ensures { result ≡ record { epoch = epoch; keys = keys; carried = None } }
     {
         Announced {
             epoch,
-            keys: KeySet::of(keys),
+            keys,
             clocks: None,
         }
     }

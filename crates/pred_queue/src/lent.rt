@@ -1,7 +1,9 @@
-// Clocks of places, lent as a list or by the bytes of a frame.
-ghost use Rattle.std.specs.Prelude.{◌≡◌, ◌<◌, Some, length, slice_get};
+// Clocks of places, lent as a list or by the bytes of a frame, and keys that the bytes lend.
+ghost use Rattle.std.specs.Prelude.{◌≡◌, ◌<◌, All, Some, length, slice_get};
+ghost use Rattle.propagation.specs.Stamps.{Rise};
 
-use wire_frame::{PlaceClock, PlacesIn};
+use stamp_clock::KeySet;
+use wire_frame::{KeysIn, PlaceClock, PlacesIn};
 
 /// Clocks of places that somebody else holds.
 pub(crate) trait Lent {
@@ -43,4 +45,17 @@ impl<'a> Lent for PlacesIn<'a> {
     fn nth(&self, i: usize) -> PlaceClock {
         self.at(i)
     }
+}
+
+// The set of these keys.
+pub(crate) fn set_of(keys: KeysIn<'_>) -> KeySet
+    requires rise { Rise 0 keys }
+    requires below { All (λ key. key < 64) keys }
+    ensures { result ≡ keys.entry }
+{
+    let mut set = KeySet::new();
+    for key in keys {
+        set.push(key);
+    }
+    set
 }

@@ -5,6 +5,7 @@ ghost use Rattle.service_machine.specs.States.{is_live as live, has_next as next
 ghost use Rattle.service_machine.specs.Openings.{first_slot};
 ghost use Rattle.service_machine.specs.Fitting.{Climb};
 ghost use Rattle.service_machine.specs.Refusing.{refuse_back, refuse_put};
+ghost use Rattle.stamp_clock.specs.Places.{AreKeys};
 ghost use Rattle.wire_frame.specs.Frames.{pairs};
 ghost use Rattle.pred_queue.specs.Capped.{capped};
 ghost use Rattle.pred_queue.specs.Refusals.{refusal_of, refusal_in, refusal_with};
@@ -14,15 +15,16 @@ use crate::carrying::next_stamps;
 use crate::copying::{copied_head, copied_keys, copied_queue};
 use crate::cutting::{cut_queue, first, is_live, live_head};
 use crate::held::{Held, Waiting};
-use crate::lent::Lent;
+use crate::lent::{Lent, set_of};
 use crate::{Emission, SlotError};
+use stamp_clock::KeySet;
 use std::alloc::Global;
 use std::collections::VecDeque;
 use std::marker::Model;
 use std::mem;
 use std::sync::ledger::Ledger;
 use svc_value::{Clock, OutOfMemory, ServiceId, Steps, Value};
-use wire_frame::{PlaceClock, PlacesIn};
+use wire_frame::{KeysIn, PlaceClock, PlacesIn};
 
 /// What became of a value.
 #[derive(Clone, Copy, Debug, PartialEq, Eq)]
@@ -94,6 +96,30 @@ impl Slot {
         ensures exactly { refusal_in result ≡ refuse_back self.old.announced epoch }
         ensures memory { IfErr result (λ error. IsSome (refusal_of error)) }
         ensures ok { OnOk result (self.new ≡ announced_to epoch keys.now self.old) }
+        ensures err { OnErr result (self.new ≡ self.old) }
+    {
+        self.announce_set(epoch, KeySet::of(keys))
+    }
+
+    /// Keys come as to `announce`, and the bytes of a frame lend them. The answers, and what an error leaves, are those of
+    /// `announce`.
+    pub fn announce_keys(&mut self, epoch: Clock, keys: KeysIn<'_>) -> Result<(), SlotError>
+        requires rise { Rise 0 keys }
+        requires below { All (λ key. key < 64) keys }
+        ensures exactly { refusal_in result ≡ refuse_back self.old.announced epoch }
+        ensures memory { IfErr result (λ error. IsSome (refusal_of error)) }
+        ensures ok { OnOk result (self.new ≡ announced_to epoch keys.entry self.old) }
+        ensures err { OnErr result (self.new ≡ self.old) }
+    {
+        self.announce_set(epoch, set_of(keys))
+    }
+
+    // The same, as a set.
+    fn announce_set(&mut self, epoch: Clock, keys: KeySet) -> Result<(), SlotError>
+        requires { AreKeys keys }
+        ensures exactly { refusal_in result ≡ refuse_back self.old.announced epoch }
+        ensures memory { IfErr result (λ error. IsSome (refusal_of error)) }
+        ensures ok { OnOk result (self.new ≡ announced_to epoch keys self.old) }
         ensures err { OnErr result (self.new ≡ self.old) }
     {
         if let Some(announced) = &self.announced {
