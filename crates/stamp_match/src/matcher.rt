@@ -4,7 +4,7 @@ ghost use Rattle.propagation.specs.Stamps.{IsRising};
 ghost use Rattle.service_machine.specs.States.{has_next, advanced, number_of, raise as raised};
 ghost use Rattle.service_machine.specs.Turning.{choice as chosen, head_lag, lagging as first_that_lags, tops as greatest};
 ghost use Rattle.pred_queue.specs.Capped.{capped};
-ghost use Rattle.stamp_match.specs.Falling.{IsEnd, NoneFalls};
+ghost use Rattle.stamp_match.specs.Falling.{AreReached, NoneFalls};
 ghost use Rattle.stamp_match.specs.Kept.{IsMatcherOf, IsKept, head_stamps, slot_in};
 ghost use Rattle.stamp_match.specs.Looks.{head_keys, keys_in, named_keys};
 ghost use Rattle.stamp_match.specs.Named.{named, IsAmong};
@@ -12,11 +12,11 @@ ghost use Rattle.stamp_match.specs.Moved.{IsRaised, IsMoved, Leads};
 
 use crate::Choice;
 use crate::following::{flags, head_lags, raise_keys};
-use crate::held::Held;
+use crate::held::{falls_at, held_at};
 use crate::slots::{first_headless, first_waiting, tops};
 use crate::walk::first_lag;
 use pred_queue::Slot;
-use stamp_clock::{Floor, Stamps};
+use stamp_clock::{Floor, KeySet, Stamps};
 use std::marker::Brand;
 use std::sync::ledger::{Blank, Ledger};
 use svc_value::{ServiceId, Steps};
@@ -40,11 +40,10 @@ impl Matcher {
         }
     }
 
-    /// The one of these slots, at most 16, under this floor, whose keys rise. It walks over all clocks of the heads twice, and
+    /// The one of these slots, at most 16, under this floor. It walks over all clocks of the heads twice, and
     /// takes no memory.
     pub fn of(slots: &[Slot], floor: &Floor) -> Matcher
         requires few { length slots.now ≤ 16 }
-        requires rising { IsRising 0 floor.now }
         ensures { IsMatcherOf slots.now floor.now result }
     {
         Matcher::counted::<Brand>(slots, floor, Blank::new(1))
@@ -53,7 +52,6 @@ impl Matcher {
     // The same, with looks that nobody counts.
     fn counted<L: Ledger>(slots: &[Slot], floor: &Floor, blank: Blank) -> Matcher
         requires few { length slots.now ≤ 16 }
-        requires rising { IsRising 0 floor.now }
         requires name { blank.name ≡ L.name }
         requires parts { blank.parts ≡ L.parts }
         requires some { 0 < blank.parts }
@@ -66,7 +64,6 @@ impl Matcher {
     // The one of these slots under this floor.
     fn found<L: Ledger>(slots: &[Slot], floor: &Floor, looks: &mut Steps<L>) -> Matcher
         requires few { length slots.now ≤ 16 }
-        requires rising { IsRising 0 floor.now }
         ensures matcher { IsMatcherOf slots.now floor.now result }
         ensures looks { looks.new ≤ looks.old + 2 * head_keys slots.now }
     {
@@ -218,16 +215,16 @@ impl Matcher {
             looks.new ≤ looks.old + 2 * keys_in (slot_in slots.old place).head + 2 * keys_in (slot_in slots.new place).head }
         ensures most { looks.new ≤ looks.old + 2 * keys_in (slot_in slots.old place).head + 2 * head_keys (take count slots.new) }
     {
-        let held = Held::of(&self.tops, floor, &slots[..count], place, looks);
+        let held = held_at(&self.tops, floor, &slots[..count], place, looks);
         let slot = &mut slots[place];
         slot.advance(moves);
-        self.renew(&held, &slots[..count], place, floor, looks);
+        self.renew(held, &slots[..count], place, floor, looks);
     }
 
-    // The head at a place came: the one before it had these clocks with which a greatest one may have fallen.
+    // The head at a place came: the one before it had the greatest clocks of these keys.
     fn renew<L: Ledger>(
         &mut self,
-        held: &Held,
+        held: KeySet,
         slots: &[Slot],
         place: usize,
         floor: &Floor,
@@ -235,16 +232,14 @@ impl Matcher {
     )
         requires place { place < length slots.now }
         requires few { length slots.now ≤ 16 }
-        requires rising { IsRising 0 floor.now }
         requires places { length self.old.lagging ≡ 16 }
         requires tops { IsRising 0 self.old.tops }
-        requires end { IsEnd held.now }
-        ensures matcher { IsMatcherOf slots.now floor.now self.new ⊎ (NoneFalls (Some held.now.clocks) (slice_index_or (head_stamps slots.now) place None) × IsMoved (head_stamps slots.now) place self.old self.new) }
-        ensures looks { NoneFalls (Some held.now.clocks) (slice_index_or (head_stamps slots.now) place None) →
-            looks.new ≤ looks.old + length held.now.clocks + 2 * keys_in (slot_in slots.now place).head }
-        ensures most { looks.new ≤ looks.old + length held.now.clocks + 2 * head_keys slots.now }
+        ensures matcher { IsMatcherOf slots.now floor.now self.new ⊎ (AreReached self.old.tops held (slice_index_or (head_stamps slots.now) place None) × IsMoved (head_stamps slots.now) place self.old self.new) }
+        ensures looks { AreReached self.old.tops held (slice_index_or (head_stamps slots.now) place None) →
+            looks.new ≤ looks.old + length held + 2 * keys_in (slot_in slots.now place).head }
+        ensures most { looks.new ≤ looks.old + length held + 2 * head_keys slots.now }
     {
-        if held.falls_at(slots, place, looks) {
+        if falls_at(held, &self.tops, slots, place, looks) {
             *self = Matcher::found(slots, floor, looks);
         } else {
             self.follow(slots, place, looks);

@@ -1,6 +1,7 @@
 // Walks over slots.
 ghost use Rattle.std.specs.Prelude.{◌≡◌, ◌+◌, ◌≤◌, ◌<◌, length, slice_get, option_map, IfSome, IfNone, None};
 ghost use Rattle.service_machine.specs.Turning.{headless, lagging, waiting, tops as greatest};
+ghost use Rattle.stamp_clock.specs.Beside.{AreStamps};
 ghost use Rattle.stamp_match.specs.Looks.{head_keys};
 
 use crate::walk::{first_lag, raise_tops};
@@ -42,9 +43,12 @@ pub(crate) fn first_waiting(slots: &[Slot]) -> Option<usize>
 // For each key the greatest clock of the floor and the heads.
 pub(crate) fn tops<L: Ledger>(slots: &[Slot], floor: &Floor, looks: &mut Steps<L>) -> Floor
     ensures greatest { result ≡ greatest slots.now floor.now }
+    ensures stamps { AreStamps floor.now }
     ensures looks { looks.new ≡ looks.old + head_keys slots.now }
 {
-    let mut tops = *floor;
+    let Ok(mut tops) = floor.copy() else {
+        unreachable!();
+    };
     for place in 0..slots.len() {
         let slot = &slots[place];
         if let Some(head) = slot.head() {

@@ -1,6 +1,5 @@
 // The turn table on two slots. The first depends on the services 0 and 1, the second on 0 and 2.
 ghost use Rattle.std.specs.Prelude.{◌≡◌, ◌<◌, ◌≤◌, IfOk, length};
-ghost use Rattle.propagation.specs.Stamps.{IsRising};
 ghost use Rattle.stamp_match.specs.Kept.{IsMatcherOf};
 
 use crate::{Choice, Matcher, choose};
@@ -100,9 +99,7 @@ pub(crate) fn slot_of(alloc: Global, sender: u16, given: &Given<'_>) -> Result<S
     Ok(slot)
 }
 
-fn floor_of(alloc: Global, clock: u32) -> Result<Floor, OutOfMemory>
-    ensures { IfOk result (λ floor. IsRising 0 floor) }
-{
+fn floor_of(alloc: Global, clock: u32) -> Result<Floor, OutOfMemory> {
     let mut floor = Floor::new();
     if clock > 0 {
         floor.raise(&Stamps::one(alloc, ServiceId(0), Clock(clock))?)?;

@@ -12,9 +12,9 @@ returns-clause-matcher g c =
     record {
       few = omega arith;
       places = c.flags-lagging.ensures.places;
-      floor_rises = c.requires.rising;
+      floor_rises = c.tops-tops.ensures.stamps.rising;
       heads_rise = rise;
-      tops_rise = subst (λ (S : Stamps). IsRising 0 S) (sym c.tops-tops.ensures.greatest) (tops-rising c.args.slots.now c.args.floor.now c.requires.rising rise);
-      tops = λ q. ap (λ (S : Stamps). clock_of S q) c.tops-tops.ensures.greatest ∙ greatest-tops c.args.slots.now c.args.floor.now q c.requires.rising rise;
+      tops_rise = subst (λ (S : Stamps). IsRising 0 S) (sym c.tops-tops.ensures.greatest) (tops-rising c.args.slots.now c.args.floor.now c.tops-tops.ensures.stamps.rising rise);
+      tops = λ q. ap (λ (S : Stamps). clock_of S q) c.tops-tops.ensures.greatest ∙ greatest-tops c.args.slots.now c.args.floor.now q c.tops-tops.ensures.stamps.rising rise;
       lagging = λ i lt. c.flags-lagging.ensures.flags i (omega arith);
     }
