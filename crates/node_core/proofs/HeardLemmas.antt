@@ -3,11 +3,15 @@ use Rattle.std.proofs.Common.{◌≡◌, ℕ, zero, suc, ◌<◌, ◌≤◌, ◌
 use Rattle.std.specs.Prelude.{◌⊎◌}
 use Rattle.std.proofs.lemmas.Bool.{eqb-false}
 use Rattle.propagation.specs.Words.{Apart, Has}
-use Rattle.propagation.specs.Logs.{Emission}
+use Rattle.propagation.specs.Logs.{Emission, Frame as TheFrame}
+use Rattle.propagation.specs.Logs.Frame.{Subscribe, Unsubscribe, Sources, Changed}
 use Rattle.propagation.specs.Stamps.{written}
-use Rattle.service_machine.specs.States.{Slot, slot_at, with_slot, put, is_live, known, keys_of, number_of}
+use Rattle.service_machine.specs.States.{Slot, slot_at, with_slot, announced_to, put, is_live, known, keys_of, number_of}
+use Rattle.svc_value.specs.declared.value.Value.{Value}
 use Rattle.node_core.specs.declared.entry.Entry.{Entry}
+use Rattle.node_core.specs.Hearing.{ArePut}
 use Rattle.node_core.specs.View.{senders, AreInOrder, AreCounted}
+use Rattle.node_core.proofs.HearLemmas.{slot_sender}
 use Rattle.node_core.proofs.InputLemmas.{inputs_within}
 
 -- ---- in order
@@ -46,7 +50,7 @@ first_with {V} (suc n) (x ∷ rest) new h = go (x.sender == new.sender) refl (fi
     go false e rec = ap (λ ps. x.sender ∷ ps) rec
 
 -- a slot in place of its sender's, or at the end, leaves the order
-pub in_order_with : {V : Type 0} (edges : List (ℕ × ℕ)) (slots : List (Slot V)) (new : Slot V) → AreInOrder edges slots → AreInOrder edges (with_slot new slots)
+in_order_with : {V : Type 0} (edges : List (ℕ × ℕ)) (slots : List (Slot V)) (new : Slot V) → AreInOrder edges slots → AreInOrder edges (with_slot new slots)
 in_order_with edges slots new was =
     record {
       apart = apart_with slots new was.apart;
@@ -56,7 +60,7 @@ in_order_with edges slots new was =
 -- ---- counted
 
 -- the slot of a sender is counted
-pub counted_at : {V : Type 0} (entries : List Entry) (slots : List (Slot V)) (p : ℕ) → AreCounted entries slots → number_of (slot_at slots p).head + length (slot_at slots p).queue ≤ length entries
+counted_at : {V : Type 0} (entries : List Entry) (slots : List (Slot V)) (p : ℕ) → AreCounted entries slots → number_of (slot_at slots p).head + length (slot_at slots p).queue ≤ length entries
 counted_at entries [] p was = omega arith
 counted_at {V} entries (x ∷ rest) p was = go (x.sender == p) (counted_at entries rest p (λ k s lt. was (suc k) s (omega arith)))
   where
@@ -65,7 +69,7 @@ counted_at {V} entries (x ∷ rest) p was = go (x.sender == p) (counted_at entri
     go false h = h
 
 -- the slots are counted with another one of a sender
-pub counted_with : {V : Type 0} (old more : List Entry) (slots : List (Slot V)) (new : Slot V) → length old ≤ length more → number_of new.head + length new.queue ≤ length more → AreCounted old slots → AreCounted more (with_slot new slots)
+counted_with : {V : Type 0} (old more : List Entry) (slots : List (Slot V)) (new : Slot V) → length old ≤ length more → number_of new.head + length new.queue ≤ length more → AreCounted old slots → AreCounted more (with_slot new slots)
 counted_with old more [] new le one was zero s lt = one
 counted_with old more [] new le one was (suc k) s lt = absurd (omega (arith, lt))
 counted_with {V} old more (x ∷ rest) new le one was k s lt =
@@ -80,7 +84,7 @@ counted_with {V} old more (x ∷ rest) new le one was k s lt =
     go false rec (suc j) less = rec j (omega (arith, less))
 
 -- a value is one more at most
-pub put_count : {V : Type 0} (own e : ℕ) (v : V) (pairs : List (ℕ × ℕ)) (s : Slot V) → number_of (put own e v pairs s).head + length (put own e v pairs s).queue ≤ suc (number_of s.head + length s.queue)
+put_count : {V : Type 0} (own e : ℕ) (v : V) (pairs : List (ℕ × ℕ)) (s : Slot V) → number_of (put own e v pairs s).head + length (put own e v pairs s).queue ≤ suc (number_of s.head + length s.queue)
 put_count {V} own e v pairs s = go (is_live s.edge own e)
   where
     come : ℕ × Emission V
@@ -89,3 +93,34 @@ put_count {V} own e v pairs s = go (is_live s.edge own e)
     go : (b : Bool) → number_of s.head + length (cond b (s.queue ++ come ∷ []) s.queue) ≤ suc (number_of s.head + length s.queue)
     go true = let len : length (s.queue ++ come ∷ []) ≡ length s.queue + length (come ∷ []) = length-append s.queue (come ∷ []) in omega (arith, len)
     go false = omega arith
+
+-- ---- what is heard
+
+-- the slots are those before with another one of the sender, whose head is the same and for which one value more waits at most
+pub record IsPutIn (p : ℕ) (old new : List (Slot Value)) : Type 0 where
+  pub slot : Slot Value
+  pub is : new ≡ with_slot slot old
+  pub sender : slot.sender ≡ p
+  pub head : slot.head ≡ (slot_at old p).head
+  pub count : number_of slot.head + length slot.queue ≤ suc (number_of (slot_at old p).head + length (slot_at old p).queue)
+
+-- so are those after keys or a value
+pub put_in : (own p : ℕ) (said : TheFrame Value) (old new : List (Slot Value)) → ArePut own p said old new → IsPutIn p old new
+put_in own p (Subscribe e) old new are = absurd are
+put_in own p (Unsubscribe e) old new are = absurd are
+put_in own p (Sources e ks) old new are =
+    record { slot = announced_to e ks (slot_at old p); is = are; sender = slot_sender old p; head = refl; count = omega arith }
+put_in own p (Changed e v pairs) old new are =
+    record { slot = put own e v pairs (slot_at old p); is = are; sender = slot_sender old p; head = refl; count = put_count own e v pairs (slot_at old p) }
+
+-- the slots stay in order
+pub in_order_put : (edges : List (ℕ × ℕ)) (p : ℕ) (old new : List (Slot Value)) → IsPutIn p old new → AreInOrder edges old → AreInOrder edges new
+in_order_put edges p old new was order =
+    let P : List (Slot Value) → Type 0 = λ slots. AreInOrder edges slots in
+    subst P (sym was.is) (in_order_with edges old was.slot order)
+
+-- and counted, with an entry more
+pub counted_put : (entries more : List Entry) (p : ℕ) (old new : List (Slot Value)) → IsPutIn p old new → length entries < length more → AreCounted entries old → AreCounted more new
+counted_put entries more p old new was less counted =
+    let P : List (Slot Value) → Type 0 = λ slots. AreCounted more slots in
+    subst P (sym was.is) (counted_with entries more old was.slot (omega (arith, less)) (omega (arith, less, was.count, counted_at entries old p counted)) counted)

@@ -1,37 +1,45 @@
 -- What is said of a node that took a frame, or refused it.
-use Rattle.std.proofs.Common.{◌≡◌, ℕ, List, None, Some, Result, Ok, Err, refl, sym, inl, inr}
+use Rattle.std.proofs.Common.{◌≡◌, ℕ, List, [], Option, None, Some, Result, Ok, Err, refl, sym, ap, subst, inl, inr}
 use Rattle.std.specs.Prelude.{OnOk, IfErr}
 use Rattle.std.proofs.lemmas.Result.{IfErr-weaker}
-use Rattle.propagation.specs.Logs.{Frame as TheFrame}
-use Rattle.propagation.specs.Logs.Frame.{Changed as TheChanged}
-use Rattle.service_machine.specs.Refusing.{InLayout, refuse_value}
+use Rattle.propagation.specs.Logs.{Emission, Frame as TheFrame, reply}
+use Rattle.service_machine.specs.Refusing.{InLayout}
 use Rattle.service_machine.specs.States.{Slot as AnySlot}
-use Rattle.service_machine.specs.Steps.{took, took_log}
+use Rattle.service_machine.specs.Steps.{took, took_log, with_slots}
 use Rattle.service_machine.proofs.Refusing.{refusals_are_exact}
 use Rattle.svc_graph.specs.declared.definition.Definition.{Definition}
 use Rattle.svc_value.specs.declared.value.Value.{Value}
 use Rattle.wire_frame.specs.declared.frame.Frame.{Frame as AnyFrame}
-use Rattle.wire_frame.specs.declared.frame.Delta.{Delta}
-use Rattle.wire_frame.specs.declared.frame.Frame.TheVariants.{Changed}
+use Rattle.wire_frame.specs.declared.frame.Frame.TheVariants.{Subscribe, Unsubscribe, Sources, Carried, Changed}
 use Rattle.wire_frame.specs.Frames.{FrameOf, pairs}
 use Rattle.wire_frame.specs.Message.{message, IsMessage}
 use Rattle.node_core.specs.declared.errors.TakeRefusal.{TakeRefusal}
 use Rattle.node_core.specs.declared.errors.TakeRefusal.TheVariants.{Frame, Old, Reader, NotBelow, NoSelf, KeyRank, WrongType, Slot, OutOfMemory}
 use Rattle.node_core.specs.Ranks.{rank_in, typed_in}
-use Rattle.node_core.specs.Hearing.{IsHeard, IsNoValue}
+use Rattle.node_core.specs.Hearing.{IsHeard, IsNotHeard, failed_in}
 use Rattle.node_core.specs.Taking.{IsRefused, IsUnread, Takes, TellsOf, failed_test}
 use Rattle.node_core.specs.View.{Service, Grows}
 
+-- a message is within its layout
+said_layout : (frame : AnyFrame) (bytes : List ℕ) (said : TheFrame Value) → FrameOf frame bytes → message frame ≡ Some said → InLayout said
+said_layout (Subscribe epoch) bytes said frame_of is = let same : TheFrame.Subscribe epoch ≡ said = cc is in subst (λ (m : TheFrame Value). InLayout m) same tt
+said_layout (Unsubscribe epoch) bytes said frame_of is = let same : TheFrame.Unsubscribe epoch ≡ said = cc is in subst (λ (m : TheFrame Value). InLayout m) same tt
+said_layout (Sources announced) bytes said frame_of is =
+    let same : TheFrame.Sources announced.epoch announced.keys ≡ said = cc is in subst (λ (m : TheFrame Value). InLayout m) same frame_of.within.rise
+said_layout (Carried cargo) bytes said frame_of is = absurd (cc is)
+said_layout (Changed delta) bytes said frame_of is =
+    let same : TheFrame.Changed delta.epoch delta.value (pairs delta.clocks) ≡ said = cc is in subst (λ (m : TheFrame Value). InLayout m) same frame_of.within.rise
+
 -- a frame that no test refuses was taken
-pub takes : {E : Type 0} (result : Result (Unit {0}) E) (old new : Service) (p : ℕ) (bytes : List ℕ) (frame : AnyFrame) (said : TheFrame Value) → FrameOf frame bytes → message frame ≡ Some said → InLayout said →
+pub takes : {E : Type 0} (result : Result (Unit {0}) E) (old new : Service) (p : ℕ) (bytes : List ℕ) (said : TheFrame Value) → IsMessage bytes said →
     OnOk result (failed_test old p said ≡ None) → OnOk result (new.state ≡ took p said old.state) → OnOk result (Grows old new (took_log p said old.state)) → OnOk result (Takes p bytes old new)
-takes (Err error) old new p bytes frame said frame_of is layout tested state log = tt
-takes (Ok done) old new p bytes frame said frame_of is layout tested state log =
+takes (Err error) old new p bytes said is tested state log = tt
+takes (Ok done) old new p bytes said is tested state log =
     record {
       said = said;
-      message = record { frame = frame; frame_of = frame_of; is = is };
+      message = is;
       tested = tested;
-      accepted = (refusals_are_exact Value Definition (rank_in old.roster) (typed_in old.roster) p said old.state layout).0 tested;
+      accepted = (refusals_are_exact Value Definition (rank_in old.roster) (typed_in old.roster) p said old.state (said_layout is.frame bytes said is.frame_of is.is)).0 tested;
       state = state;
       log = log;
     }
@@ -48,22 +56,57 @@ refused_by node p bytes said is WrongType tells = (said, is, tells)
 refused_by node p bytes said is (Slot error) tells = (said, is, tells)
 refused_by node p bytes said is OutOfMemory tells = tt
 
-pub refuses : (result : Result (Unit {0}) (TakeRefusal × List ℕ)) (node : Service) (p : ℕ) (bytes : List ℕ) (frame : AnyFrame) (said : TheFrame Value) → FrameOf frame bytes → message frame ≡ Some said →
+pub refuses : (result : Result (Unit {0}) (TakeRefusal × List ℕ)) (node : Service) (p : ℕ) (bytes : List ℕ) (said : TheFrame Value) → IsMessage bytes said →
     IfErr result (λ refused. TellsOf (failed_test node p said) refused.0) → IfErr result (λ refused. IsRefused node p bytes refused.0)
-refuses result node p bytes frame said frame_of is tells =
+refuses result node p bytes said is tells =
     IfErr-weaker result (λ refused. TellsOf (failed_test node p said) refused.0) (λ refused. IsRefused node p bytes refused.0)
-    (λ refused. refused_by node p bytes said (record { frame = frame; frame_of = frame_of; is = is }) refused.0) tells
+    (λ refused. refused_by node p bytes said is refused.0) tells
 
--- ---- values
+-- no refusal but want of memory tells of no test
+pub tells_none : (error : TakeRefusal) → TellsOf None error → error ≡ OutOfMemory
+tells_none (Frame place why) tells = absurd (tells.0 refl)
+tells_none Old tells = absurd (tells.0 refl)
+tells_none (Reader other) tells = absurd (tells.0 refl)
+tells_none NotBelow tells = absurd (tells.0 refl)
+tells_none NoSelf tells = absurd (tells.0 refl)
+tells_none (KeyRank key) tells = absurd (tells.0 refl)
+tells_none WrongType tells = absurd (tells.0 refl)
+tells_none (Slot other) tells = absurd (tells.0 refl)
+tells_none OutOfMemory tells = refl
 
--- a value that is heard passes each test
-pub heard_tested : (node : Service) (p : ℕ) (delta : Delta) (new : List (AnySlot Value)) → IsHeard node.roster node.state.id node.state.own p delta node.state.slots new →
-    failed_test node p (TheChanged delta.epoch delta.value (pairs delta.clocks)) ≡ None
-heard_tested node p delta new heard = (λ i. refuse_value (heard.lower i) (heard.typed i) (heard.slot i))
+-- ---- keys and values
 
--- bytes that are no value, or one that is not heard, are refused
-pub no_value : (node : Service) (p : ℕ) (bytes : List ℕ) (error : TakeRefusal) → IsNoValue node.roster node.state.id p bytes node.state.slots error → IsRefused node p bytes error
-no_value node p bytes error (inl unread) = go error unread
+-- what is heard passes each test
+pub heard_tested : (node : Service) (p : ℕ) (said : TheFrame Value) (new : List (AnySlot Value)) → IsHeard node.roster node.state.id node.state.own p said node.state.slots new → failed_test node p said ≡ None
+heard_tested node p (TheFrame.Subscribe e) new heard = absurd heard.slots
+heard_tested node p (TheFrame.Unsubscribe e) new heard = absurd heard.slots
+heard_tested node p (TheFrame.Sources e ks) new heard = heard.tested
+heard_tested node p (TheFrame.Changed e v pairs) new heard = heard.tested
+
+-- the slots are those of the state that took it
+pub heard_state : (node : Service) (p : ℕ) (said : TheFrame Value) (new : List (AnySlot Value)) → IsHeard node.roster node.state.id node.state.own p said node.state.slots new → with_slots new node.state ≡ took p said node.state
+heard_state node p (TheFrame.Subscribe e) new heard = absurd heard.slots
+heard_state node p (TheFrame.Unsubscribe e) new heard = absurd heard.slots
+heard_state node p (TheFrame.Sources e ks) new heard = ap (λ (slots : List (AnySlot Value)). with_slots slots node.state) heard.slots
+heard_state node p (TheFrame.Changed e v pairs) new heard = ap (λ (slots : List (AnySlot Value)). with_slots slots node.state) heard.slots
+
+-- and it has no answer
+pub heard_quiet : (node : Service) (p : ℕ) (said : TheFrame Value) (new : List (AnySlot Value)) → IsHeard node.roster node.state.id node.state.own p said node.state.slots new → (last : Option (Emission Value)) → reply said last ≡ []
+heard_quiet node p (TheFrame.Subscribe e) new heard last = absurd heard.slots
+heard_quiet node p (TheFrame.Unsubscribe e) new heard last = absurd heard.slots
+heard_quiet node p (TheFrame.Sources e ks) new heard last = refl
+heard_quiet node p (TheFrame.Changed e v pairs) new heard last = refl
+
+-- a test of the slot's is a test of the node's
+unheard_tells : (node : Service) (p : ℕ) (said : TheFrame Value) (error : TakeRefusal) → TellsOf (failed_in node.roster node.state.id node.state.slots p said) error → TellsOf (failed_test node p said) error
+unheard_tells node p (TheFrame.Subscribe e) error tells = subst (λ (why : TakeRefusal). TellsOf (failed_test node p (TheFrame.Subscribe e)) why) (sym (tells_none error tells)) tt
+unheard_tells node p (TheFrame.Unsubscribe e) error tells = subst (λ (why : TakeRefusal). TellsOf (failed_test node p (TheFrame.Unsubscribe e)) why) (sym (tells_none error tells)) tt
+unheard_tells node p (TheFrame.Sources e ks) error tells = tells
+unheard_tells node p (TheFrame.Changed e v pairs) error tells = tells
+
+-- bytes that are not heard are refused
+pub not_heard : (node : Service) (p : ℕ) (bytes : List ℕ) (error : TakeRefusal) → IsNotHeard node.roster node.state.id p bytes node.state.slots error → IsRefused node p bytes error
+not_heard node p bytes error (inl unread) = go error unread
   where
     go : (why : TakeRefusal) → IsUnread bytes why → IsRefused node p bytes why
     go (Frame place reason) none = none
@@ -75,5 +118,5 @@ no_value node p bytes error (inl unread) = go error unread
     go WrongType none = absurd none
     go (Slot other) none = absurd none
     go OutOfMemory none = tt
-no_value node p bytes error (inr unheard) =
-    refused_by node p bytes (TheChanged unheard.0.epoch unheard.0.value (pairs unheard.0.clocks)) (record { frame = Changed unheard.0; frame_of = unheard.1; is = refl }) error unheard.2
+not_heard node p bytes error (inr (inl old)) = subst (λ (why : TakeRefusal). IsRefused node p bytes why) (sym old.0) old.1
+not_heard node p bytes error (inr (inr unheard)) = refused_by node p bytes unheard.0 unheard.1 error (unheard_tells node p unheard.0 error unheard.2)

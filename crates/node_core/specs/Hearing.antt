@@ -1,37 +1,54 @@
--- The slot of a sender among slots, and a value that is heard of it.
-use Rattle.std.specs.Prelude.{◌≡◌, ◌⊎◌, ℕ, ◌==◌, true, List, Option, position}
+-- What a node hears of a sender: keys and values, which are put into the sender's slot.
+use Rattle.std.specs.Prelude.{◌≡◌, ◌⊎◌, ℕ, ◌==◌, List, Option, position}
 use Rattle.std.proofs.Common.{None}
-use Rattle.service_machine.specs.Refusing.{is_below, refuse_put, refuse_value}
-use Rattle.service_machine.specs.States.{Slot, slot_at, with_slot, put}
+use Rattle.propagation.specs.Logs.{Frame as TheFrame}
+use Rattle.propagation.specs.Logs.Frame.{Sources as TheSources, Changed as TheChanged}
+use Rattle.propagation.specs.Words.{is_among}
+use Rattle.service_machine.specs.Refusing.{Refusal, is_below, bad_key, refuse_put, refuse_sources, refuse_value}
+use Rattle.service_machine.specs.States.{Slot, slot_at, with_slot, announced_to, put}
 use Rattle.svc_graph.specs.declared.kind.Kind.{Kind}
 use Rattle.svc_value.specs.declared.value.Value.{Value}
-use Rattle.wire_frame.specs.declared.frame.Delta.{Delta}
-use Rattle.wire_frame.specs.declared.frame.Frame.TheVariants.{Changed}
-use Rattle.wire_frame.specs.Frames.{FrameOf, pairs}
+use Rattle.wire_frame.specs.declared.frame.Frame.TheVariants.{Subscribe as IsSubscribe, Unsubscribe as IsUnsubscribe}
+use Rattle.wire_frame.specs.Frames.{FrameOf}
+use Rattle.wire_frame.specs.Message.{IsMessage}
 use Rattle.node_core.specs.declared.errors.TakeRefusal.{TakeRefusal}
+use Rattle.node_core.specs.declared.errors.TakeRefusal.TheVariants.{Old}
+use Rattle.node_core.specs.declared.heard.Heard.{Heard}
+use Rattle.node_core.specs.declared.heard.Heard.TheVariants.{Subscribe, Unsubscribe, Put}
 use Rattle.node_core.specs.Ranks.{rank_in, typed_in}
-use Rattle.node_core.specs.Taking.{IsUnread, TellsOf}
+use Rattle.node_core.specs.Taking.{IsOld, IsUnread, TellsOf}
 
 -- the place of the first slot of the sender
 abbrev pub place_in : {V : Type 0} → List (Slot V) → ℕ → Option ℕ
 place_in slots p = position (λ slot. slot.sender == p) slots
 
--- the value passes each test, and was put into the slot of its sender
-pub record IsHeard (roster : List Kind) (id own p : ℕ) (delta : Delta) (old new : List (Slot Value)) : Type 0 where
-  pub lower : is_below (rank_in roster p) (rank_in roster id) ≡ true
-  pub typed : typed_in roster p delta.value ≡ true
-  pub slot : refuse_put (slot_at old p).announced (slot_at old p).carried delta.epoch (pairs delta.clocks) ≡ None
-  pub slots : new ≡ with_slot (put own delta.epoch delta.value (pairs delta.clocks) (slot_at old p)) old
+-- the first test that fails of keys or of a value of the sender, if one does
+abbrev pub failed_in : List Kind → ℕ → List (Slot Value) → ℕ → TheFrame Value → Option Refusal
+failed_in roster id slots p (TheSources e ks) = refuse_sources (is_below (rank_in roster p) (rank_in roster id)) (is_among ks p) (bad_key (rank_in roster) p ks) (slot_at slots p).announced e
+failed_in roster id slots p (TheChanged e v pairs) = refuse_value (is_below (rank_in roster p) (rank_in roster id)) (typed_in roster p v) (refuse_put (slot_at slots p).announced (slot_at slots p).carried e pairs)
+failed_in roster id slots p said = None
 
--- the refusal tells of the first test that the value fails, unless memory ran out
-abbrev pub IsUnheard : List Kind → ℕ → ℕ → Delta → List (Slot Value) → TakeRefusal → Type 0
-IsUnheard roster id p delta slots error =
-    TellsOf (refuse_value (is_below (rank_in roster p) (rank_in roster id)) (typed_in roster p delta.value) (refuse_put (slot_at slots p).announced (slot_at slots p).carried delta.epoch (pairs delta.clocks))) error
+-- these are the slots after the keys or the value of the sender
+abbrev pub ArePut : ℕ → ℕ → TheFrame Value → List (Slot Value) → List (Slot Value) → Type 0
+ArePut own p (TheSources e ks) old new = new ≡ with_slot (announced_to e ks (slot_at old p)) old
+ArePut own p (TheChanged e v pairs) old new = new ≡ with_slot (put own e v pairs (slot_at old p)) old
+ArePut own p said old new = ⊥
 
--- the bytes are just such a value
-abbrev pub HearsValue : List Kind → ℕ → ℕ → ℕ → List ℕ → List (Slot Value) → List (Slot Value) → Type 0
-HearsValue roster id own p bytes old new = (delta : Delta) × FrameOf (Changed delta) bytes × IsHeard roster id own p delta old new
+-- the keys or the value pass each test, and were put into the slot of the sender
+pub record IsHeard (roster : List Kind) (id own p : ℕ) (said : TheFrame Value) (old new : List (Slot Value)) : Type 0 where
+  pub tested : failed_in roster id old p said ≡ None
+  pub slots : ArePut own p said old new
 
--- the bytes are not just one frame, or a value that is refused, unless memory ran out
-abbrev pub IsNoValue : List Kind → ℕ → ℕ → List ℕ → List (Slot Value) → TakeRefusal → Type 0
-IsNoValue roster id p bytes slots error = IsUnread bytes error ⊎ ((delta : Delta) × FrameOf (Changed delta) bytes × IsUnheard roster id p delta slots error)
+-- the bytes say this, and keys and values were put
+abbrev pub Hears : List Kind → ℕ → ℕ → ℕ → List ℕ → List (Slot Value) → List (Slot Value) → Heard → Type 0
+Hears roster id own p bytes old new (Subscribe epoch) = FrameOf (IsSubscribe epoch) bytes × (new ≡ old)
+Hears roster id own p bytes old new (Unsubscribe epoch) = FrameOf (IsUnsubscribe epoch) bytes × (new ≡ old)
+Hears roster id own p bytes old new Put = (said : TheFrame Value) × IsMessage bytes said × IsHeard roster id own p said old new
+
+-- the bytes are keys or a value of which that test failed, unless memory ran out
+abbrev pub IsUnheard : List Kind → ℕ → ℕ → List ℕ → List (Slot Value) → TakeRefusal → Type 0
+IsUnheard roster id p bytes slots error = (said : TheFrame Value) × IsMessage bytes said × TellsOf (failed_in roster id slots p said) error
+
+-- why the bytes are not heard: they are not just one frame, or a value of version 1, or keys or a value that fails a test
+abbrev pub IsNotHeard : List Kind → ℕ → ℕ → List ℕ → List (Slot Value) → TakeRefusal → Type 0
+IsNotHeard roster id p bytes slots error = IsUnread bytes error ⊎ (((error ≡ Old) × IsOld bytes) ⊎ IsUnheard roster id p bytes slots error)

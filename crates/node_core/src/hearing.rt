@@ -1,24 +1,26 @@
 // What is heard of a sender, put into its slot.
-ghost use Rattle.std.specs.Prelude.{◌≡◌, ◌<◌, All, slice_index, OnOk, OnErr, IfErr};
+ghost use Rattle.std.specs.Prelude.{◌≡◌, ◌<◌, ◌≤◌, ℕ, All, length, OnOk, OnErr, IfOk, IfErr};
+ghost use Rattle.propagation.specs.Logs.Frame.{Sources as TheSources, Changed as TheChanged};
 ghost use Rattle.propagation.specs.Stamps.{Rise, RisePairs};
 ghost use Rattle.pred_queue.specs.Refusals.{refusal_in};
 ghost use Rattle.service_machine.specs.Refusing.{refuse_back, refuse_put};
 ghost use Rattle.service_machine.specs.States.{announced_to, put as put_to, slot_at, with_slot};
 ghost use Rattle.wire_frame.specs.Frames.{pairs};
-ghost use Rattle.wire_frame.specs.LentFrames.{delta_in};
-ghost use Rattle.node_core.specs.Hearing.{place_in, IsHeard, IsUnheard, HearsValue, IsNoValue};
+ghost use Rattle.node_core.specs.Hearing.{place_in, failed_in, Hears, IsHeard, IsNotHeard};
+ghost use Rattle.node_core.specs.Taking.{TellsOf};
 ghost use Rattle.node_core.specs.View.{SameKept};
 
 use crate::TakeRefusal;
+use crate::heard::Heard;
 use crate::journal::Journal;
-use crate::reading::whole_value;
+use crate::reading::whole_frame;
 use crate::refusing::of_slot;
-use crate::testing::test_value;
+use crate::testing::{test_sources, test_value};
 use pred_queue::{Slot, SlotError};
 use std::alloc::Global;
 use svc_graph::Kind;
 use svc_value::{Clock, ServiceId};
-use wire_frame::DeltaIn;
+use wire_frame::{AnnouncedIn, DeltaIn, FrameIn};
 
 // The place of the slot of a sender.
 fn place_of(slots: &[Slot], sender: ServiceId) -> Option<usize>
@@ -27,31 +29,31 @@ fn place_of(slots: &[Slot], sender: ServiceId) -> Option<usize>
     slots.iter().position(|slot| slot.sender() == sender)
 }
 
-// Keys of a sender; the first that are heard of it make its slot.
-pub(crate) fn announce(
+// Keys of a sender, of which every test before the slot's was made; the first that are heard of it make its slot.
+fn announce(
     alloc: Global,
     slots: &mut Vec<Slot>,
     sender: ServiceId,
-    epoch: Clock,
-    keys: &[ServiceId],
+    announced: AnnouncedIn<'_>,
 ) -> Result<(), SlotError>
-    requires rise { Rise 0 keys.now }
-    requires below { All (λ key. key < 64) keys.now }
-    ensures exactly { refusal_in result ≡ refuse_back (slot_at slots.old.items sender).announced epoch }
-    ensures ok { OnOk result (slots.new.items ≡ with_slot (announced_to epoch keys.now (slot_at slots.old.items sender)) slots.old.items) }
+    requires rise { Rise 0 announced.keys }
+    requires below { All (λ key. key < 64) announced.keys }
+    ensures exactly { refusal_in result ≡ refuse_back (slot_at slots.old.items sender).announced announced.entry.epoch }
+    ensures ok { OnOk result (slots.new.items ≡ with_slot (announced_to announced.entry.epoch announced.entry.keys (slot_at slots.old.items sender)) slots.old.items) }
     ensures err { OnErr result (slots.new.items ≡ slots.old.items) }
 {
+    let AnnouncedIn { epoch, keys } = announced;
     let Some(place) = place_of(slots.as_slice(), sender) else {
         if slots.reserve(1).is_err() {
             return Err(SlotError::OutOfMemory);
         }
         let mut slot = Slot::new(alloc, sender, None);
-        slot.announce(epoch, keys)?;
+        slot.announce_keys(epoch, keys)?;
         slots.push_reserved(slot);
         return Ok(());
     };
     let slot = &mut slots[place];
-    slot.announce(epoch, keys)
+    slot.announce_keys(epoch, keys)
 }
 
 // A value of a sender, of which every test before the slot's was made.
@@ -81,8 +83,38 @@ fn put(
     }
 }
 
+// Keys of a sender come to the service `id`, if no test fails, and there is room for their entry in the journal.
+fn hear_keys(
+    alloc: Global,
+    roster: &[Kind],
+    id: ServiceId,
+    slots: &mut Vec<Slot>,
+    journal: &mut Journal,
+    sender: ServiceId,
+    announced: AnnouncedIn<'_>,
+) -> Result<(), TakeRefusal>
+    requires few { length roster.now ≤ 64 }
+    requires rise { Rise 0 announced.keys }
+    ensures ok { OnOk result ((own : ℕ) → IsHeard roster.now id own sender (TheSources announced.entry.epoch announced.entry.keys) slots.old.items slots.new.items) }
+    ensures room { OnOk result (0 < journal.new.entry_room) }
+    ensures same { SameKept journal.old journal.new }
+    ensures err { OnErr result (slots.new.items ≡ slots.old.items) }
+    ensures refused { IfErr result (TellsOf (failed_in roster.now id slots.old.items sender (TheSources announced.entry.epoch announced.entry.keys))) }
+{
+    if let Err(error) = test_sources(roster, id, sender, &announced.keys) {
+        return Err(error);
+    }
+    if journal.reserve(0).is_err() {
+        return Err(TakeRefusal::OutOfMemory);
+    }
+    match announce(alloc, slots, sender, announced) {
+        Ok(()) => Ok(()),
+        Err(error) => Err(of_slot(error)),
+    }
+}
+
 // A value of a sender comes to the service `id`, if no test fails, and there is room for its entry in the journal.
-fn hear(
+fn hear_value(
     roster: &[Kind],
     id: ServiceId,
     own: Clock,
@@ -92,11 +124,11 @@ fn hear(
     delta: DeltaIn<'_>,
 ) -> Result<(), TakeRefusal>
     requires rise { RisePairs 0 (pairs delta.clocks) }
-    ensures ok { OnOk result (IsHeard roster.now id own sender (delta_in delta.entry) slots.old.items slots.new.items) }
+    ensures ok { OnOk result (IsHeard roster.now id own sender (TheChanged delta.entry.epoch delta.entry.value (pairs delta.entry.clocks)) slots.old.items slots.new.items) }
     ensures room { OnOk result (0 < journal.new.entry_room) }
     ensures same { SameKept journal.old journal.new }
     ensures err { OnErr result (slots.new.items ≡ slots.old.items) }
-    ensures refused { IfErr result (IsUnheard roster.now id sender (delta_in delta.entry) slots.old.items) }
+    ensures refused { IfErr result (TellsOf (failed_in roster.now id slots.old.items sender (TheChanged delta.entry.epoch delta.entry.value (pairs delta.entry.clocks)))) }
 {
     if let Err(error) = test_value(roster, id, sender, &delta.value) {
         return Err(error);
@@ -110,8 +142,9 @@ fn hear(
     }
 }
 
-// The same, as bytes, which begin as a value of version 2.
-pub(crate) fn hear_value(
+// Bytes of a sender come to the service `id`. Keys and values are put into its slot, if no test fails, and there is room for
+// their entry in the journal; what readers ask is told.
+pub(crate) fn hear(
     alloc: Global,
     roster: &[Kind],
     id: ServiceId,
@@ -120,16 +153,29 @@ pub(crate) fn hear_value(
     journal: &mut Journal,
     sender: ServiceId,
     bytes: &[u8],
-) -> Result<(), TakeRefusal>
-    requires { slice_index bytes.now 0 ≡ 5 }
-    ensures ok { OnOk result (HearsValue roster.now id own sender bytes.now slots.old.items slots.new.items) }
-    ensures room { OnOk result (0 < journal.new.entry_room) }
+) -> Result<Heard, TakeRefusal>
+    requires few { length roster.now ≤ 64 }
+    ensures ok { IfOk result (Hears roster.now id own sender bytes.now slots.old.items slots.new.items) }
+    ensures room { IfOk result (λ heard. heard ≡ Heard.Put → 0 < journal.new.entry_room) }
     ensures same { SameKept journal.old journal.new }
     ensures err { OnErr result (slots.new.items ≡ slots.old.items) }
-    ensures refused { IfErr result (IsNoValue roster.now id sender bytes.now slots.old.items) }
+    ensures refused { IfErr result (IsNotHeard roster.now id sender bytes.now slots.old.items) }
 {
-    match whole_value(alloc, bytes) {
-        Ok(delta) => hear(roster, id, own, slots, journal, sender, delta),
-        Err(error) => Err(error),
+    let frame = match whole_frame(alloc, bytes) {
+        Ok(frame) => frame,
+        Err(refusal) => return Err(refusal),
+    };
+    match frame {
+        FrameIn::Subscribe(epoch) => Ok(Heard::Subscribe(epoch)),
+        FrameIn::Unsubscribe(epoch) => Ok(Heard::Unsubscribe(epoch)),
+        FrameIn::Sources(announced) => {
+            hear_keys(alloc, roster, id, slots, journal, sender, announced)?;
+            Ok(Heard::Put)
+        }
+        FrameIn::Carried(_) => Err(TakeRefusal::Old),
+        FrameIn::Changed(delta) => {
+            hear_value(roster, id, own, slots, journal, sender, delta)?;
+            Ok(Heard::Put)
+        }
     }
 }

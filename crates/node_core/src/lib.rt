@@ -7,6 +7,7 @@ mod definitions;
 mod encoding;
 mod entry;
 mod errors;
+mod heard;
 mod hearing;
 mod journal;
 mod mail;

@@ -1,10 +1,12 @@
 // What a node knows of other services.
 ghost use Rattle.std.specs.Prelude.{◌≡◌, ◌<◌, ◌≤◌, length, slice_get, IsSome};
+ghost use Rattle.propagation.specs.Words.{is_among};
 ghost use Rattle.service_machine.specs.Refusing.{is_below as below, bad_key as first_bad_key};
 ghost use Rattle.node_core.specs.Ranks.{rank_in, typed_in};
 
 use svc_graph::Kind;
 use svc_value::{ServiceId, Value};
+use wire_frame::KeysIn;
 
 // The rank and the type of a service, where it is known.
 fn kind_of(roster: &[Kind], id: ServiceId) -> Option<Kind>
@@ -36,13 +38,25 @@ pub(crate) fn is_typed(roster: &[Kind], id: ServiceId, value: &Value) -> bool
     }
 }
 
+// Whether the service is among the keys.
+pub(crate) fn is_key(keys: &KeysIn<'_>, id: ServiceId) -> bool
+    ensures { result ≡ is_among keys.now id }
+{
+    for key in keys.iter() {
+        if key == id {
+            return true;
+        }
+    }
+    false
+}
+
 // The first key that is not the sender's and not known to be of a lower rank.
-pub(crate) fn bad_key(roster: &[Kind], sender: ServiceId, keys: &[ServiceId]) -> Option<ServiceId>
+pub(crate) fn bad_key(roster: &[Kind], sender: ServiceId, keys: &KeysIn<'_>) -> Option<ServiceId>
     ensures { result ≡ first_bad_key (rank_in roster.now) sender keys.now }
 {
-    for key in keys {
-        if *key != sender && !is_below(roster, *key, sender) {
-            return Some(*key);
+    for key in keys.iter() {
+        if key != sender && !is_below(roster, key, sender) {
+            return Some(key);
         }
     }
     None

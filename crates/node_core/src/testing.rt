@@ -6,17 +6,17 @@ ghost use Rattle.node_core.specs.Ranks.{rank_in, typed_in};
 ghost use Rattle.node_core.specs.Taking.{TellsOf};
 
 use crate::TakeRefusal;
-use crate::definitions::has;
-use crate::ranks::{bad_key, is_below, is_typed};
+use crate::ranks::{bad_key, is_below, is_key, is_typed};
 use svc_graph::Kind;
 use svc_value::{ServiceId, Value};
+use wire_frame::KeysIn;
 
 // Whether the service `id` may hear these keys of a sender.
 pub(crate) fn test_sources(
     roster: &[Kind],
     id: ServiceId,
     sender: ServiceId,
-    keys: &[ServiceId],
+    keys: &KeysIn<'_>,
 ) -> Result<(), TakeRefusal>
     ensures lower { OnOk result (below (rank_in roster.now sender) (rank_in roster.now id) ≡ true) }
     ensures own { OnOk result (is_among keys.now sender ≡ true) }
@@ -27,7 +27,7 @@ pub(crate) fn test_sources(
     if !is_below(roster, sender, id) {
         return Err(TakeRefusal::NotBelow);
     }
-    if !has(keys, sender) {
+    if !is_key(keys, sender) {
         return Err(TakeRefusal::NoSelf);
     }
     if let Some(key) = bad_key(roster, sender, keys) {

@@ -1,21 +1,19 @@
 // Frames that a service takes.
-ghost use Rattle.std.specs.Prelude.{◌≡◌, slice_index, IfErr, OnOk, None};
-ghost use Rattle.propagation.specs.Logs.Frame.{Subscribe as TheSubscribe, Unsubscribe as TheUnsubscribe, Sources as TheSources};
+ghost use Rattle.std.specs.Prelude.{◌≡◌, IfErr, OnOk, None};
+ghost use Rattle.propagation.specs.Logs.Frame.{Subscribe as TheSubscribe, Unsubscribe as TheUnsubscribe};
 ghost use Rattle.service_machine.specs.Steps.{took, took_log};
-ghost use Rattle.wire_frame.specs.declared.frame.Frame.TheVariants.{Subscribe as IsSubscribe, Unsubscribe as IsUnsubscribe, Sources as IsSources};
+ghost use Rattle.wire_frame.specs.declared.frame.Frame.TheVariants.{Subscribe as IsSubscribe, Unsubscribe as IsUnsubscribe};
 ghost use Rattle.wire_frame.specs.Frames.{FrameOf};
 
 use super::Node;
-use crate::hearing::{announce, hear_value};
+use crate::heard::Heard;
+use crate::hearing::hear;
 use crate::mail::Mail;
 use crate::ranks::is_below;
-use crate::reading::{begins_value, whole_frame};
-use crate::refusing::{of_readers, of_slot};
-use crate::testing::test_sources;
+use crate::refusing::of_readers;
 use crate::welcome::staged_welcome;
 use crate::{Entry, TakeRefusal};
 use svc_value::{Bytes, Clock, ServiceId};
-use wire_frame::{Announced, Frame};
 
 impl Node {
     ghost use Rattle.node_core.specs.View.{Grows};
@@ -80,78 +78,6 @@ impl Node {
         Ok(())
     }
 
-    // Keys are announced.
-    fn take_sources(
-        &mut self,
-        sender: ServiceId,
-        announced: Announced,
-        bytes: Bytes,
-    ) -> Result<(), (TakeRefusal, Bytes)>
-        requires frame { FrameOf (IsSources announced) bytes }
-        ensures tested { OnOk result (failed_test self.old sender (TheSources announced.epoch announced.keys) ≡ None) }
-        ensures state { OnOk result (self.new.state ≡ took sender (TheSources announced.epoch announced.keys) self.old.state) }
-        ensures log { OnOk result (Grows self.old self.new (took_log sender (TheSources announced.epoch announced.keys) self.old.state)) }
-        ensures err { IfErr result (λ refused. (self.new ≡ self.old) × (refused.1 ≡ bytes)) }
-        ensures refused { IfErr result (λ refused. TellsOf (failed_test self.old sender (TheSources announced.epoch announced.keys)) refused.0) }
-    {
-        let keys = announced.keys.as_slice();
-        if let Err(error) = test_sources(self.roster.as_slice(), self.id, sender, keys) {
-            return Err((error, bytes));
-        }
-        if self.journal.reserve(0).is_err() {
-            return Err((TakeRefusal::OutOfMemory, bytes));
-        }
-        if let Err(error) = announce(self.alloc, &mut self.slots, sender, announced.epoch, keys) {
-            return Err((of_slot(error), bytes));
-        }
-        let _ = self
-            .journal
-            .record(Entry::Took(sender, bytes), Mail::new(self.alloc));
-        Ok(())
-    }
-
-    // A value comes, as bytes that begin as one of version 2.
-    fn take_value(&mut self, sender: ServiceId, bytes: Bytes) -> Result<(), (TakeRefusal, Bytes)>
-        requires { slice_index bytes 0 ≡ 5 }
-        ensures ok { OnOk result (Takes sender bytes self.old self.new) }
-        ensures err { IfErr result (λ refused. (self.new ≡ self.old) × (refused.1 ≡ bytes)) }
-        ensures refused { IfErr result (λ refused. IsRefused self.old sender bytes refused.0) }
-    {
-        let roster = self.roster.as_slice();
-        let (slots, journal) = (&mut self.slots, &mut self.journal);
-        let (id, own) = (self.id, self.own);
-        let lent = bytes.as_slice();
-        match hear_value(self.alloc, roster, id, own, slots, journal, sender, lent) {
-            Ok(()) => {
-                let mail = Mail::new(self.alloc);
-                let _ = self.journal.record(Entry::Took(sender, bytes), mail);
-                Ok(())
-            }
-            Err(refusal) => Err((refusal, bytes)),
-        }
-    }
-
-    // Takes a frame.
-    fn take_frame(
-        &mut self,
-        sender: ServiceId,
-        frame: Frame,
-        bytes: Bytes,
-    ) -> Result<(), (TakeRefusal, Bytes)>
-        requires frame { FrameOf frame bytes }
-        ensures ok { OnOk result (Takes sender bytes self.old self.new) }
-        ensures err { IfErr result (λ refused. (self.new ≡ self.old) × (refused.1 ≡ bytes)) }
-        ensures refused { IfErr result (λ refused. IsRefused self.old sender bytes refused.0) }
-    {
-        match frame {
-            Frame::Subscribe(epoch) => self.take_subscribe(sender, epoch, bytes),
-            Frame::Unsubscribe(epoch) => self.take_unsubscribe(sender, epoch, bytes),
-            Frame::Sources(announced) => self.take_sources(sender, announced, bytes),
-            Frame::Carried(_) => Err((TakeRefusal::Old, bytes)),
-            Frame::Changed(_) => self.take_value(sender, bytes),
-        }
-    }
-
     /// Takes a frame of `sender`, which is logged with its bytes, and does as the protocol says: a reader comes or goes, keys
     /// are announced, or a value is put into the sender's slot. A new reader is sent the last emission, if there is one.
     ///
@@ -163,12 +89,22 @@ impl Node {
         ensures err { IfErr result (λ refused. (self.new ≡ self.old) × (refused.1 ≡ bytes)) }
         ensures refused { IfErr result (λ refused. IsRefused self.old sender bytes refused.0) }
     {
-        if begins_value(bytes.as_slice()) {
-            return self.take_value(sender, bytes);
-        }
-        match whole_frame(self.alloc, bytes.as_slice()) {
-            Ok(frame) => self.take_frame(sender, frame, bytes),
-            Err(error) => Err((error, bytes)),
+        let roster = self.roster.as_slice();
+        let (slots, journal) = (&mut self.slots, &mut self.journal);
+        let (id, own) = (self.id, self.own);
+        let lent = bytes.as_slice();
+        let heard = match hear(self.alloc, roster, id, own, slots, journal, sender, lent) {
+            Ok(heard) => heard,
+            Err(refusal) => return Err((refusal, bytes)),
+        };
+        match heard {
+            Heard::Subscribe(epoch) => self.take_subscribe(sender, epoch, bytes),
+            Heard::Unsubscribe(epoch) => self.take_unsubscribe(sender, epoch, bytes),
+            Heard::Put => {
+                let mail = Mail::new(self.alloc);
+                let _ = self.journal.record(Entry::Took(sender, bytes), mail);
+                Ok(())
+            }
         }
     }
 }

@@ -46,8 +46,8 @@ inputs_of-inputs-requires c =
     let S : List (Slot Value) → Type 0 = λ xs. AreInOrder c.replace.new.dest xs in
     subst S (sym c.as_slice.ensures.value) order
 
-pub of-self-inside-requires-clause-few : goal.of-self-inside-requires-clause-few
-of-self-inside-requires-clause-few c =
+pub of-self-inside-requires : goal.of-self-inside-requires
+of-self-inside-requires c =
     let lt : c.self.inside.done < length c.self.inside.changes.items = omega (arith, c.if-self-len.false, c.len.ensures, c.self.invariant.within) in
     let few : IsFew (next c.self.inside.by c.index-change.result.now) = few_next c.self.inside.id c.self.inside.own c.self.inside.by c.self.inside.changes.items c.self.inside.done c.index-change.result.now c.self.invariant.defined lt c.index-change.ensures in
     let up : c.next_clock-clock.result ≡ suc c.self.inside.own = omega (arith, c.next_clock-clock.ensures) in
