@@ -1,9 +1,8 @@
 // Frames that are offered to a service in the middle, and why some are refused.
 ghost use Rattle.std.specs.Prelude.{◌<◌};
 
+use super::middle::middle;
 use super::offering::{Offer, offer};
-use super::services::Service;
-use super::written::derived;
 use node_core::TakeRefusal;
 use pred_queue::SlotError;
 use rewire_core::ReaderError;
@@ -12,16 +11,6 @@ use std::process::Abort;
 use std::test::Fail;
 use svc_value::{Clock, ServiceId, ValueReason};
 use wire_frame::FrameReason;
-
-const SERVICES: [(&'static str, u16); 3] = [("x", 0), ("n", 1), ("r", 2)];
-
-// The service of number 1 and rank 1, which names the service 0 of rank 0 and has done its birth; the service 2 has the rank 2.
-fn middle(alloc: Global) -> Result<Service, Fail> {
-    let mut service = Service::new(alloc, ServiceId(1), &SERVICES)?;
-    service.open(&[derived(alloc, "x", &[ServiceId(0)], &[])?])?;
-    service.change()?;
-    Ok(service)
-}
 
 const SOURCES: [Offer<'static>; 5] = [
     (
