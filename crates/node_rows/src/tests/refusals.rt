@@ -139,8 +139,8 @@ fn the_first_reason_is_told_of_values(rt: HostRuntime) -> Result<(), Fail> {
     refuses(&rt, rt.alloc(), &VALUES)
 }
 
-// Bytes of a service that is not below: of no kind; a value of version 1 with a byte behind it, and without; and frames with a byte
-// behind them that would be refused without it too.
+// Bytes of no kind; a value of version 1, of another type and of a service that is not below, with a byte behind it, and without;
+// and frames of the other kinds with a byte behind them, each of which would be refused without it too.
 const FRAMES: [Offer<'static>; 7] = [
     (
         2,
