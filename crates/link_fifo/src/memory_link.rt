@@ -25,7 +25,7 @@ impl Model for MemoryLink {
 }
 
 impl MemoryLink {
-    ghost use Rattle.std.specs.Prelude.{◌≡◌, ◌≤◌, ◌+◌, [], option_map, OnOk, OnErr};
+    ghost use Rattle.std.specs.Prelude.{◌≡◌, ◌<◌, ◌≤◌, ◌+◌, [], ◌∷◌, option_map, OnOk, OnErr};
     ghost use Rattle.link_fifo.specs.Waiting.{first_of};
 
     /// An empty link, which takes its memory from `alloc` when room is reserved.
@@ -40,6 +40,7 @@ impl MemoryLink {
     /// Makes `spare` at least `count`, and leaves the items as they were. After `OutOfMemory` the link is as it was.
     pub fn reserve(&mut self, count: usize) -> Result<(), OutOfMemory>
         ensures spare { OnOk result (count ≤ self.new.spare) }
+        ensures grows { self.old.spare ≤ self.new.spare }
         ensures waiting { self.new.waiting ≡ self.old.waiting }
         ensures err { OnErr result (self.new ≡ self.old) }
     {
@@ -49,6 +50,15 @@ impl MemoryLink {
             self.items.reserve_exact(count.max(len))?;
         }
         Ok(())
+    }
+
+    /// Puts `item` in front of those that wait, where `spare` is positive, as it is after a pop. No memory is taken.
+    pub fn put_back(&mut self, item: Bytes)
+        requires { 0 < self.old.spare }
+        ensures waiting { self.new.waiting ≡ item ∷ self.old.waiting }
+        ensures spare { self.new.spare + 1 ≡ self.old.spare }
+    {
+        self.items.push_front_reserved(item);
     }
 
     /// The first item that waits, lent; `None` exactly where none waits.
@@ -90,12 +100,12 @@ impl LinkIn for MemoryLink {
 
     ghost known = { λ link. link.waiting };
 
-    /// The first item that waits; `None` exactly where none waits. `spare` never falls. No memory is taken.
+    /// The first item that waits; `None` exactly where none waits. `spare` rises by one with an item. No memory is taken.
     fn pop(&mut self) -> Option<Bytes>
         ensures taken { IfSome result (λ item. self.old.waiting ≡ item ∷ self.new.waiting) }
         ensures empty { IsNone result ↔ (self.old.waiting ≡ []) }
         ensures kept { IsNone result → self.new ≡ self.old }
-        ensures spare { self.old.spare ≤ self.new.spare }
+        ensures spare { IfSome result (λ _. self.new.spare ≡ self.old.spare + 1) }
     {
         self.items.pop_front()
     }
