@@ -1,5 +1,5 @@
 -- Frames that are taken out and put back.
-use Rattle.std.proofs.Common.{◌≡◌, ◌≢◌, ℕ, zero, suc, ◌<◌, ◌+◌, ◌==◌, Bool, true, false, cond, List, [], ◌∷◌, ◌++◌, length, slice_index_or, Option, Some, None, refl, sym, ap, ◌∙◌, arith, option_to_list, ltb, ◌≤◌, ltb-false, eqb-true, subst, append_assoc}
+use Rattle.std.proofs.Common.{◌≡◌, ◌≢◌, ℕ, zero, suc, ◌<◌, ◌+◌, ◌==◌, Bool, true, false, cond, List, [], ◌∷◌, ◌++◌, length, slice_index_or, Option, Some, None, refl, sym, ap, ◌∙◌, arith, option_to_list, ltb, ◌≤◌, ltb-false, eqb-true, subst, append_assoc, eq-eqb, ne_eqb}
 use Rattle.std.proofs.lemmas.Bool.{cond-true, cond-false, eqb-false}
 use Rattle.std.proofs.lemmas.List.Quantifiers.{position-Some}
 use Rattle.std.proofs.lemmas.List.Edits.{length-remove}
@@ -8,7 +8,7 @@ use Rattle.std.proofs.Common.{not}
 use Rattle.node_core.specs.declared.entry.Entry.{Entry}
 use Rattle.node_core.specs.Entries.{sent_to}
 use Rattle.node_core.specs.Outbox.{waiting, first_to, TakesOut}
-use Rattle.node_core.specs.View.{IsPosted}
+use Rattle.node_core.specs.View.{IsPosted, IsLastOut}
 
 -- where no frame before is to the service, the one at the place is its oldest
 pub own_at : (q : ℕ) (posts : List (ℕ × List ℕ)) (i : ℕ) (x : ℕ × List ℕ) → i < length posts → x ≡ slice_index_or posts i x → (x.0 == q) ≡ true →
@@ -80,6 +80,10 @@ posted_out entries q old new taken out posted p = go (p == q) refl
         subst P (sym (eqb-true p q e)) ((posted q).0 ++ option_to_list taken, (posted q).1 ∙ ap (λ zs. (posted q).0 ++ zs) out.own ∙ sym (append_assoc (posted q).0 (option_to_list taken) (waiting q new)))
     go false e = ((posted p).0, (posted p).1 ∙ ap (λ zs. (posted p).0 ++ zs) (sym (out.others p (eqb-false p q e))))
 
+-- and is the last that was
+pub last_out : (entries : List Entry) (q : ℕ) (old new : List (ℕ × List ℕ)) (frame : List ℕ) → TakesOut q old new (Some frame) → IsPosted entries old → IsLastOut q frame entries new
+last_out entries q old new frame out posted = ((posted q).0, (posted q).1 ∙ ap (λ zs. (posted q).0 ++ zs) out.own)
+
 -- and what is put back was not
 pub posted_back : (entries : List Entry) (q : ℕ) (b : List ℕ) (posts : List (ℕ × List ℕ)) → (gone : List (List ℕ)) × (sent_to q entries ≡ gone ++ b ∷ waiting q posts) →
     IsPosted entries posts → IsPosted entries ((q, b) ∷ posts)
@@ -92,3 +96,12 @@ posted_back entries q b posts last posted p = go (q == p) refl
 -- equal lists are posted alike
 pub posted_same : (old new : List Entry) (before after : List (ℕ × List ℕ)) → new ≡ old → after ≡ before → IsPosted old before → IsPosted new after
 posted_same old new before after e f was = let P : List Entry → Type 0 = λ entries. IsPosted entries after in let Q : List (ℕ × List ℕ) → Type 0 = λ posts. IsPosted old posts in subst P (sym e) (subst Q (sym f) was)
+
+-- the oldest of all goes
+pub pops_out : (x : ℕ × List ℕ) (rest : List (ℕ × List ℕ)) → TakesOut x.0 (x ∷ rest) rest (Some x.1)
+pops_out x rest = record {
+  own = cond-true (x.0 == x.0) (x.1 ∷ waiting x.0 rest) (waiting x.0 rest) (eq-eqb x.0 x.0 refl);
+  none = λ is. absurd (cc is);
+  others = λ p ne. sym (cond-false (x.0 == p) (x.1 ∷ waiting p rest) (waiting p rest) (ne_eqb x.0 p (λ e. ne (sym e))));
+  count = omega arith;
+}

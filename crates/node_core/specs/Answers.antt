@@ -1,5 +1,5 @@
 -- What a turn answers.
-use Rattle.std.specs.Prelude.{◌≡◌, ℕ, Result}
+use Rattle.std.specs.Prelude.{◌≡◌, ◌≢◌, ℕ, Result}
 use Rattle.std.proofs.Common.{Ok, Err}
 use Rattle.service_machine.specs.Turning.{Choice}
 use Rattle.service_machine.specs.Turning.Choice.{Advance, Compute, Empty as Lacks, Lags as Trails, Still as Rests}
@@ -14,6 +14,10 @@ IsAnswer Compute answer = answer ≡ Computed
 IsAnswer (Lacks p) answer = answer ≡ Empty p
 IsAnswer (Trails p key) answer = answer ≡ Lags p key
 IsAnswer Rests answer = answer ≡ Still
+
+-- it did nothing: no value was moved and none was computed
+abbrev pub IsIdle : Turned → Type 0
+IsIdle answer = (answer ≢ Advanced) × (answer ≢ Computed)
 
 -- how many values it moved
 abbrev pub moved_by : Turned → ℕ

@@ -1,5 +1,5 @@
 // What was done in a leg, and the frames that were sent in it and not yet handed over.
-ghost use Rattle.std.specs.Prelude.{◌≡◌, ◌+◌, ◌-◌, ◌≤◌, ◌<◌, [], ◌∷◌, ◌++◌, ℕ, ◌↔◌, length, option_to_list, OnOk, IsTrue};
+ghost use Rattle.std.specs.Prelude.{◌≡◌, ◌+◌, ◌-◌, ◌≤◌, ◌<◌, [], ◌∷◌, ◌++◌, ℕ, ◌↔◌, length, option_to_list, OnOk, IfSome, IsNone, IsTrue};
 ghost use Rattle.std.specs.VecDeque.{deque_len, deque_capacity};
 ghost use Rattle.node_core.specs.Entries.{sent_entries, sent_to};
 ghost use Rattle.node_core.specs.Outbox.{TakesOut};
@@ -105,12 +105,26 @@ impl Journal {
     // Takes out the oldest frame to a service.
     pub(crate) fn next_out(&mut self, to: ServiceId) -> Option<Bytes>
         ensures out { TakesOut to self.old.outbox self.new.outbox result }
+        ensures last { IfSome result (λ frame. IsLastOut to frame self.new.entries self.new.outbox) }
         ensures entries { self.new.entries ≡ self.old.entries }
         ensures handed { self.new.handed ≡ self.old.handed + length (option_to_list result) }
     {
         let frame = take_out(&mut self.outbox, to)?;
         self.handed += 1;
         Some(frame)
+    }
+
+    // Takes out the oldest frame, with its receiver.
+    pub(crate) fn pop_out(&mut self) -> Option<(ServiceId, Bytes)>
+        ensures some { IfSome result (λ post. self.old.outbox ≡ post ∷ self.new.outbox) }
+        ensures none { IsNone result → self.old.outbox ≡ [] }
+        ensures kept { IsNone result → self.new.outbox ≡ self.old.outbox }
+        ensures entries { self.new.entries ≡ self.old.entries }
+        ensures handed { self.new.handed ≡ self.old.handed + length (option_to_list result) }
+    {
+        let post = self.outbox.pop_front()?;
+        self.handed += 1;
+        Some(post)
     }
 
     // Puts the frame back that was taken out last of those to a service.

@@ -17,7 +17,7 @@ use svc_value::{OutOfMemory, ServiceId, Steps};
 
 impl Node {
     ghost use Rattle.node_core.specs.View.{Grows};
-    ghost use Rattle.node_core.specs.Answers.{IsAnswer, moves_of};
+    ghost use Rattle.node_core.specs.Answers.{IsAnswer, IsIdle, moves_of};
 
     // Computes by the present definition, if there is one, and tells the readers.
     fn compute<L: Ledger>(&mut self, looks: &mut Steps<L>) -> Result<(), OutOfMemory>
@@ -68,7 +68,8 @@ impl Node {
     /// One turn: the first case of the turn table that applies. It takes one step of `moves` exactly where it answers
     /// `Advanced`, and one of `looks` for each comparison of a clock. What the table looks for is kept up to date: `Advanced`
     /// looks at the clocks of the head that goes and of the one that comes, `Computed` at those that are emitted, `Lags` at those
-    /// of the head that it names, and the others at none. After `OutOfMemory` the node is as it was.
+    /// of the head that it names, and the others at none. `Empty`, `Lags` and `Still` leave the node as it was, and so does
+    /// `OutOfMemory`.
     pub fn turn<M: Ledger, L: Ledger>(
         &mut self,
         moves: &mut Steps<M>,
@@ -77,6 +78,7 @@ impl Node {
         ensures state { OnOk result (self.new.state ≡ turned meaning_of self.old.state) }
         ensures log { OnOk result (Grows self.old self.new (turn_log meaning_of self.old.state)) }
         ensures answer { IfOk result (IsAnswer (chosen self.old.state)) }
+        ensures idle { IfOk result (λ answer. IsIdle answer → self.new ≡ self.old) }
         ensures moves { moves.new ≡ moves.old + moves_of result }
         ensures err { OnErr result (self.new ≡ self.old) }
     {

@@ -1,5 +1,5 @@
 use Rattle.std.proofs.Common.{arith, Some, None}
-use Rattle.node_core.proofs.OutboxLemmas.{posted_out}
+use Rattle.node_core.proofs.OutboxLemmas.{posted_out, last_out}
 use Rattle.node_core.proofs.journal.Journal.next_out.Goals as goal
 
 pub invariant_of-self : goal.invariant_of-self
@@ -15,3 +15,7 @@ invariant_of-self-2 c =
       posted = posted_out c.self.inside.log.items c.args.to c.self.inside.outbox.items c.take_out.new.outbox.items (Some c.in_ok-frame.frame) c.in_ok-frame.ensures.taken c.self.invariant.posted;
       room = omega (arith, c.self.invariant.room, c.in_ok-frame.ensures.taken.count, c.in_ok-frame.ensures.capacity);
     }
+
+pub returns-clause-last : goal.returns-clause-last
+returns-clause-last c =
+    last_out c.self.inside.log.items c.args.to c.self.inside.outbox.items c.take_out.new.outbox.items c.in_ok-frame.frame c.in_ok-frame.ensures.taken c.self.invariant.posted

@@ -1,0 +1,23 @@
+use Rattle.std.proofs.Common.{◌≡◌, ℕ, arith, Some, subst, sym, List}
+use Rattle.node_core.specs.Outbox.{TakesOut}
+use Rattle.node_core.specs.View.{IsPosted}
+use Rattle.node_core.proofs.OutboxLemmas.{posted_out, pops_out}
+use Rattle.node_core.proofs.journal.Journal.pop_out.Goals as goal
+
+pub invariant_of-self : goal.invariant_of-self
+invariant_of-self c =
+    let e = c.in_err-post.ensures in
+    record {
+      posted = (let P : List (ℕ × List ℕ) → Type 0 = λ posts. IsPosted c.self.inside.log.items posts in subst P e.items c.self.invariant.posted);
+      room = omega (arith, c.self.invariant.room, e.len, e.capacity);
+    }
+
+pub invariant_of-self-2 : goal.invariant_of-self-2
+invariant_of-self-2 c =
+    let e = c.in_ok-post.ensures in
+    record {
+      posted = (let P : List (ℕ × List ℕ) → Type 0 = λ posts. TakesOut c.in_ok-post.post.0 posts c.pop_front.new.self.items (Some c.in_ok-post.post.1) in
+          posted_out c.self.inside.log.items c.in_ok-post.post.0 c.self.inside.outbox.items c.pop_front.new.self.items (Some c.in_ok-post.post.1)
+          (subst P (sym e.items) (pops_out c.in_ok-post.post c.pop_front.new.self.items)) c.self.invariant.posted);
+      room = omega (arith, c.self.invariant.room, e.len, e.capacity);
+    }
