@@ -4,12 +4,8 @@
 #![tactic(auto)]
 
 mod at;
-#[cfg(test)]
-mod at_tests;
 mod evaluation;
 mod reaching;
-#[cfg(test)]
-mod tests;
 
 pub use at::central_at;
 pub use evaluation::central;

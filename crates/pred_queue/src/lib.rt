@@ -15,6 +15,3 @@ mod slot;
 pub use emission::Emission;
 pub use errors::SlotError;
 pub use slot::{Put, Slot};
-
-#[cfg(test)]
-mod tests;

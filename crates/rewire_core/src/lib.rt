@@ -6,8 +6,6 @@ mod edges;
 mod errors;
 mod pairs;
 mod readers;
-#[cfg(test)]
-mod tests;
 
 pub use edges::Edges;
 pub use errors::ReaderError;

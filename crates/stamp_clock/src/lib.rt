@@ -10,6 +10,3 @@ pub use floor::Floor;
 pub use keys::KeySet;
 pub use pairs::Pairs;
 pub use stamps::Stamps;
-
-#[cfg(test)]
-mod tests;

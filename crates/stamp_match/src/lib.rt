@@ -13,8 +13,3 @@ mod walk;
 pub use choices::Choice;
 pub use matcher::Matcher;
 pub use table::choose;
-
-#[cfg(test)]
-mod sequences;
-#[cfg(test)]
-mod tests;

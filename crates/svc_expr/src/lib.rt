@@ -23,8 +23,6 @@ mod quoting;
 mod reading;
 mod refusing;
 mod small;
-#[cfg(test)]
-mod tests;
 mod texts;
 mod types;
 

@@ -10,8 +10,6 @@ mod errors;
 mod history;
 mod kind;
 mod lent;
-#[cfg(test)]
-mod tests;
 
 pub use book::{Book, MOST_SERVICES};
 pub use definition::{Change, Definition, Formula};

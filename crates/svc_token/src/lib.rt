@@ -6,8 +6,6 @@ mod cutting;
 mod keyword;
 mod mark;
 mod span;
-#[cfg(test)]
-mod tests;
 mod token;
 
 pub use cutting::{CutError, cut, is_blank, one_cut};

@@ -33,6 +33,3 @@ pub use streams::{Sink, Source};
 pub use taken::{ValueError, ValueReason, take_value};
 pub use text::{LONGEST_TEXT, TextError, ValueText};
 pub use value::{Fault, Value, ValueType};
-
-#[cfg(test)]
-mod tests;

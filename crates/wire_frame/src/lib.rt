@@ -20,8 +20,6 @@ mod read;
 mod reason;
 mod shift;
 mod stream_laws;
-#[cfg(test)]
-mod tests;
 mod write;
 
 pub use cutter::Cutter;

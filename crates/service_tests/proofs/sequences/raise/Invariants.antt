@@ -1,0 +1,4 @@
+use Rattle.service_tests.proofs.sequences.raise.Given as goal
+
+abbrev pub ghosts-raise_with : goal.ghosts-raise_with
+ghosts-raise_with a = record { name = a.blank.name; parts = a.blank.parts }

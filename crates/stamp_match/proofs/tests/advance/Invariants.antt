@@ -1,4 +1,0 @@
-use Rattle.stamp_match.proofs.tests.advance.Given as goal
-
-abbrev pub ghosts-advance_with : goal.ghosts-advance_with
-ghosts-advance_with a = record { name = a.blank.name; parts = a.blank.parts }

@@ -1,4 +1,0 @@
-mod bytes;
-mod cutter;
-mod lent;
-mod streams;
