@@ -5,11 +5,11 @@ use Rattle.std.specs.Char.{is_ascii_alphabetic}
 use Rattle.std.specs.List.{list_all}
 use Rattle.svc_graph.specs.declared.definition.Change.{Change}
 use Rattle.svc_graph.specs.History.{Row, changed}
-use Rattle.svc_text.specs.declared.plan.Leg.{Leg}
-use Rattle.svc_text.specs.declared.plan.PlanChange.{PlanChange}
-use Rattle.svc_text.specs.declared.plan.ServiceLine.{ServiceLine}
-use Rattle.svc_text.specs.Rows.{row_of}
-use Rattle.svc_text.specs.Rows.{with_services, with_changes, rows_after, AreServicesAfter, AreLegsAfter}
+use Rattle.svc_plan.specs.declared.plan.Leg.{Leg}
+use Rattle.svc_plan.specs.declared.plan.PlanChange.{PlanChange}
+use Rattle.svc_plan.specs.declared.plan.ServiceLine.{ServiceLine}
+use Rattle.svc_plan.specs.Rows.{row_of}
+use Rattle.svc_plan.specs.Rows.{with_services, with_changes, rows_after, AreServicesAfter, AreLegsAfter}
 use Rattle.svc_token.specs.Word.{is_word_byte, is_word, IsName}
 use Rattle.svc_value.specs.Printed.{printed}
 use Rattle.svc_value.specs.declared.value.Value.{Value}

@@ -1,0 +1,15 @@
+pub mod CanonicalAgain
+pub mod CanonicalBytes
+pub mod CanonicalChanges
+pub mod CanonicalCuts
+pub mod CanonicalFormulas
+pub mod CanonicalLegs
+pub mod CanonicalLines
+pub mod CanonicalLiterals
+pub mod CanonicalNames
+pub mod CanonicalReadable
+pub mod CanonicalReading
+pub mod CanonicalSayable
+pub mod CanonicalSays
+pub mod CanonicalStates
+pub mod CanonicalSteps

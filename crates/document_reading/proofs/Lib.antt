@@ -1,0 +1,23 @@
+pub mod AnswerLemmas
+pub mod BodyLemmas
+mod Examples
+pub mod FitLemmas
+pub mod FormLemmas
+pub mod GrammarLemmas
+pub mod HeadLemmas
+pub mod LineLemmas
+pub mod LiteralLemmas
+pub mod MemberLemmas
+pub mod MoreLemmas
+pub mod NumberLemmas
+pub mod PresentLemmas
+pub mod ProperLemmas
+pub mod QuotedLemmas
+pub mod ReadingLemmas
+pub mod RefusalLemmas
+pub mod ResultLemmas
+pub mod SaidLemmas
+pub mod SoundLemmas
+pub mod StandingLemmas
+pub mod TakingLemmas
+pub mod UnreadLemmas

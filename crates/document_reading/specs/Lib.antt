@@ -1,0 +1,9 @@
+pub mod Document
+pub mod Grammar
+pub mod Present
+pub mod Reader
+pub mod Reading
+pub mod Refusals
+pub mod Sound
+pub mod State
+pub mod Stops

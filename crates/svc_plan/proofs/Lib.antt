@@ -1,0 +1,4 @@
+pub mod BornLemmas
+pub mod LegLemmas
+pub mod Rewinding
+pub mod RowLemmas

@@ -1,0 +1,78 @@
+-- What a leg makes of the rows of a book, and when it can be taken.
+use Rattle.std.specs.Prelude.{◌≡◌, ◌≢◌, ℕ, ◌<◌, ◌≤◌, List, [], ◌∷◌, ◌++◌, map, length, drop, option_to_list, All, None}
+use Rattle.svc_graph.specs.declared.definition.Change.{Change}
+use Rattle.svc_graph.specs.Accepting.{IsChangeOf}
+use Rattle.svc_graph.specs.Refusals.{refusal_of}
+use Rattle.svc_graph.specs.History.{Row, changed, declared_row, place_of, present}
+use Rattle.svc_token.specs.Word.{IsName}
+use Rattle.svc_plan.specs.declared.plan.Leg.{Leg}
+use Rattle.svc_plan.specs.declared.plan.PlanChange.{PlanChange}
+use Rattle.svc_plan.specs.declared.plan.ServiceLine.{ServiceLine}
+
+-- a service without a definition
+abbrev pub row_of : ServiceLine → Row
+row_of line = declared_row line.name line.rank line.ty
+
+-- the rows with more services, which have no definition yet
+abbrev pub with_services : List Row → List ServiceLine → List Row
+with_services rows lines = rows ++ map row_of lines
+
+-- the rows after changes, one after the other
+abbrev pub with_changes : List Row → List PlanChange → List Row
+with_changes rows [] = rows
+with_changes rows (change ∷ changes) = with_changes (changed rows change.id change.change) changes
+
+-- the rows after a leg: it declares its services, and then makes its changes
+abbrev pub rows_after : List Row → Leg → List Row
+rows_after rows leg = with_changes (with_services rows leg.services) leg.changes
+
+-- the rows after legs, one after the other
+abbrev pub rows_after_all : List Row → List Leg → List Row
+rows_after_all rows [] = rows
+rows_after_all rows (leg ∷ legs) = rows_after_all (rows_after rows leg) legs
+
+-- the rows with the last definition of each alone: a book as a document finds it that goes on from there
+abbrev pub present_rows : List Row → List Row
+present_rows rows = map {A = Row} (λ row. record row { history = option_to_list (present row.history) }) rows
+
+-- each service is born
+abbrev pub EachBorn : List Row → Type 0
+EachBorn [] = Unit {0}
+EachBorn (row ∷ rows) = (row.history ≢ []) × EachBorn rows
+
+-- ---- legs that can be taken
+
+-- a name that is not declared, room for a service, and a rank within its limit
+pub record IsServiceAfter (rows : List Row) (line : ServiceLine) : Type 0 where
+  pub name : IsName line.name
+  pub new : place_of rows line.name ≡ None
+  pub room : length rows < 64
+  pub rank : line.rank ≤ 1000
+
+-- so is each of these after those before it
+abbrev pub AreServicesAfter : List Row → List ServiceLine → Type 0
+AreServicesAfter rows [] = Unit {0}
+AreServicesAfter rows (line ∷ lines) = IsServiceAfter rows line × AreServicesAfter (with_services rows (line ∷ [])) lines
+
+-- a book accepts the change
+pub record IsAcceptedAfter (rows : List Row) (n : ℕ) (change : Change) : Type 0 where
+  pub form : IsChangeOf rows n change
+  pub passes : refusal_of rows n change ≡ None
+
+-- so it does each of these after those before it
+abbrev pub AreAcceptedAfter : List Row → List PlanChange → Type 0
+AreAcceptedAfter rows [] = Unit {0}
+AreAcceptedAfter rows (change ∷ changes) =
+    IsAcceptedAfter rows change.id change.change × AreAcceptedAfter (changed rows change.id change.change) changes
+
+-- the leg can be taken: its services can be declared and then its changes be made, which bring each service a definition
+pub record IsLegAfter (rows : List Row) (leg : Leg) : Type 0 where
+  pub services : AreServicesAfter rows leg.services
+  pub accepted : AreAcceptedAfter (with_services rows leg.services) leg.changes
+  pub few : length leg.changes ≤ 1024
+  pub born : All (λ row. row.history ≢ []) (drop (length rows) (rows_after rows leg))
+
+-- each leg can be taken after those before it
+abbrev pub AreLegsAfter : List Row → List Leg → Type 0
+AreLegsAfter rows [] = Unit {0}
+AreLegsAfter rows (leg ∷ legs) = IsLegAfter rows leg × AreLegsAfter (rows_after rows leg) legs

@@ -1,5 +1,0 @@
-use Rattle.svc_text.proofs.Rewinding.{Accepted}
-use Rattle.svc_text.proofs.extending.accept_all.Given as goal
-
-abbrev pub invariant-loop-next : goal.invariant-loop-next
-invariant-loop-next l = Accepted l.fn.book l.changes l.book l.next-index

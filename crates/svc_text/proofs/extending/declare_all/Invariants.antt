@@ -1,5 +1,0 @@
-use Rattle.svc_text.proofs.Rewinding.{Declared}
-use Rattle.svc_text.proofs.extending.declare_all.Given as goal
-
-abbrev pub invariant-loop-line : goal.invariant-loop-line
-invariant-loop-line l = Declared l.fn.book l.lines l.book l.line-index

@@ -1,6 +1,0 @@
-use Rattle.std.proofs.Common.{◌∙◌, sym}
-use Rattle.svc_graph.proofs.Lists.{is_among-list_any}
-use Rattle.svc_text.proofs.generator.members.is_among.Goals as goal
-
-pub returns : goal.returns
-returns c = c.contains.ensures.value ∙ sym (is_among-list_any c.args.numbers.now c.args.q)

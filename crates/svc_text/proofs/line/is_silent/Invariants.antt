@@ -1,6 +1,0 @@
-use Rattle.std.proofs.Common.{◌≡◌, drop}
-use Rattle.svc_text.specs.Grammar.{is_silent}
-use Rattle.svc_text.proofs.line.is_silent.Given as goal
-
-abbrev pub invariant-loop-b : goal.invariant-loop-b
-invariant-loop-b l = is_silent (drop l.b-index l.line) ≡ is_silent l.line

@@ -1,6 +1,0 @@
-use Rattle.std.proofs.Common.{◌≡◌}
-use Rattle.svc_text.specs.Present.{half_present}
-use Rattle.svc_text.proofs.present.present_book.Given as goal
-
-abbrev pub invariant-loop-number : goal.invariant-loop-number
-invariant-loop-number l = l.copy ≡ half_present l.number l.book

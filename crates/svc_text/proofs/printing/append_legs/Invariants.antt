@@ -1,6 +1,0 @@
-use Rattle.std.proofs.Common.{◌≡◌, ◌++◌, flat_map, take}
-use Rattle.svc_text.specs.Canonical.{leg_lines, ended}
-use Rattle.svc_text.proofs.printing.append_legs.Given as goal
-
-abbrev pub invariant-loop-leg : goal.invariant-loop-leg
-invariant-loop-leg l = l.out.items ≡ l.fn.out.items ++ ended (flat_map (leg_lines l.services) (take l.leg-index l.legs))
