@@ -1,0 +1,65 @@
+-- The part of a leg that each service gets, and the nodes that begin it.
+use Rattle.std.specs.Prelude.{◌≡◌, ℕ, ◌+◌, ◌<◌, ◌≤◌, List, [], ◌∷◌, ◌++◌, length, slice_index_or, slice_set}
+use Rattle.propagation.specs.Words.{Has}
+use Rattle.service_machine.specs.Openings.{AtRest}
+use Rattle.svc_graph.specs.Book.{IsDefinitionOf}
+use Rattle.svc_graph.specs.declared.definition.Definition.{Definition}
+use Rattle.svc_graph.specs.declared.kind.Kind.{Kind}
+use Rattle.svc_graph.specs.History.{Row}
+use Rattle.link_fifo.specs.Waiting.{Link}
+use Rattle.svc_plan.specs.declared.plan.PlanChange.{PlanChange}
+use Rattle.node_core.specs.Coming.{coming}
+use Rattle.node_core.specs.View.{Service}
+use Rattle.settle_core.specs.declared.opening.LegPart.{LegPart}
+use Rattle.settle_core.specs.Net.{Net, service_at}
+use Rattle.settle_core.specs.Opening.{changes_of, opened}
+use Rattle.settle_core.specs.Inside.Table.{waiting_in}
+
+-- the part of a service that is not there
+abbrev pub blank : LegPart
+blank = record { roster = []; changes = [] }
+
+-- the parts of the services of the roster: each has the roster, and those of the changes that are its own
+pub record AreParts (roster : List Kind) (changes : List PlanChange) (parts : List LegPart) : Type 0 where
+  pub count : length parts ≡ length roster
+  pub each : (n : ℕ) → n < length roster → slice_index_or parts n blank ≡ record { roster = roster; changes = changes_of n changes }
+
+-- the part of the change's service has this change more, behind the others
+pub record AddsChange (next : PlanChange) (old new : List LegPart) : Type 0 where
+  pub part : LegPart
+  pub table : new ≡ slice_set old next.id part
+  pub roster : part.roster ≡ (slice_index_or old next.id blank).roster
+  pub changes : part.changes ≡ (slice_index_or old next.id blank).changes ++ next.change ∷ []
+
+-- what a node rests on that ends its leg and begins the next one with this part
+pub record CanBegin (s : Service) (part : LegPart) : Type 0 where
+  pub rest : AtRest s.state
+  pub handed : s.outbox ≡ []
+  pub few : length part.roster ≤ 64
+  pub known : s.state.id < length part.roster
+  pub accepted : (d : Definition) → Has (coming s.state.by part.changes) d → IsDefinitionOf part.roster s.state.id d
+  pub clock : s.state.own + length part.changes ≤ 1024000
+
+-- each of these nodes can, with its part
+abbrev pub EachCanBegin : List Service → List LegPart → Type 0
+EachCanBegin services parts = (n : ℕ) → n < length services → CanBegin (service_at services n) (slice_index_or parts n blank)
+
+-- the first `k` nodes have begun, each with its part, and the others are as they were
+pub record HaveBegun (parts : List LegPart) (k : ℕ) (old new : List Service) : Type 0 where
+  pub count : length new ≡ length old
+  pub done : (n : ℕ) → n < k → service_at new n ≡ opened (slice_index_or parts n blank).roster (slice_index_or parts n blank).changes (service_at old n)
+  pub rest : (n : ℕ) → k ≤ n → service_at new n ≡ service_at old n
+
+-- there are so many nodes, and the new ones are unborn
+pub record MoreNodes (count : ℕ) (old new : List Service) : Type 0 where
+  pub count_is : length new ≡ count
+  pub same : (n : ℕ) → service_at new n ≡ service_at old n
+
+-- there are so many links more, and the new ones are empty
+pub record MoreLinks (more : ℕ) (old new : List Link) : Type 0 where
+  pub count_is : length new ≡ length old + more
+  pub same : (i : ℕ) → slice_index_or (waiting_in new) i [] ≡ slice_index_or (waiting_in old) i []
+
+-- the network of this book, these nodes and these links
+abbrev pub net_of : List Row → List Service → List Link → Net
+net_of rows services links = record { rows = rows; services = services; links = waiting_in links }
