@@ -1,4 +1,0 @@
-use Rattle.node_rows.proofs.tests.services.Service.take.Goals as goal
-
-pub invariant_of-self : goal.invariant_of-self
-invariant_of-self c = λ rows is. c.taken.ensures c.self.inside.id rows (c.self.invariant rows is)
