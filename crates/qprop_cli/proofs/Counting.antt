@@ -2,9 +2,9 @@
 use Rattle.std.proofs.Common.{◌≡◌, ◌∙◌, sym, ap, subst, ℕ, zero, suc, ◌+◌, ◌*◌, ◌<◌, ◌≤◌, arith, List, [], ◌∷◌, length, take, slice_index_or}
 use Rattle.std.proofs.lemmas.List.{length-append}
 use Rattle.svc_graph.specs.History.{Row}
-use Rattle.svc_text.specs.declared.plan.Leg.{Leg}
-use Rattle.svc_text.specs.declared.plan.ServiceLine.{ServiceLine}
-use Rattle.svc_text.specs.Rows.{row_of, with_services, rows_after, AreServicesAfter, AreLegsAfter}
+use Rattle.svc_plan.specs.declared.plan.Leg.{Leg}
+use Rattle.svc_plan.specs.declared.plan.ServiceLine.{ServiceLine}
+use Rattle.svc_plan.specs.Rows.{row_of, with_services, rows_after, AreServicesAfter, AreLegsAfter}
 use Rattle.qprop_cli.specs.Checked.{service_count, change_count}
 
 -- no more than 64 services are declared

@@ -1,22 +1,22 @@
 -- What was added is a beginning of the text due, and at the end all of it.
 use Rattle.std.specs.Io.KnownBytes.{Appends}
 use Rattle.std.proofs.Common.{sym, subst, ℕ, ◌≤◌, inl, inr, arith, List, [], length, Option, None, Some}
-use Rattle.settle_core.specs.Settling.{Settling}
-use Rattle.svc_text.specs.declared.plan.Leg.{Leg}
-use Rattle.svc_text.specs.declared.plan.Mode.{Mode}
-use Rattle.svc_text.specs.declared.plan.Mode.TheVariants as mode
-use Rattle.svc_text.specs.declared.refusal.Refusal.{Refusal}
-use Rattle.svc_text.specs.Document.{HasLegs, IsRefusal}
-use Rattle.svc_text.specs.Rows.{AreLegsAfter}
+use Rattle.settle_core.specs.Net.{Net}
+use Rattle.svc_plan.specs.declared.plan.Leg.{Leg}
+use Rattle.svc_plan.specs.declared.plan.Mode.{Mode}
+use Rattle.svc_plan.specs.declared.plan.Mode.TheVariants as mode
+use Rattle.svc_plan.specs.Rows.{AreLegsAfter}
+use Rattle.document_reading.specs.declared.refusal.Refusal.{Refusal}
+use Rattle.document_reading.specs.Document.{HasLegs, IsRefusal}
 use Rattle.trace_text.specs.Settled.{Settles}
 use Rattle.trace_text.proofs.Untracing.{settled_is_untraced}
 use Rattle.command_words.specs.declared.command.Command.{Command}
 use Rattle.command_words.specs.declared.command.Command.TheVariants.{Step, Check, Central, Frames, Make}
 use Rattle.command_words.specs.declared.size.Size.{Size}
-use Rattle.svc_text.specs.Generator.{generated}
+use Rattle.document_generator.specs.Generator.{generated}
 use Rattle.qprop_cli.specs.Checked.{accepted_line}
 use Rattle.qprop_cli.specs.FrameStream.{HasLines, IsStreamRefusal}
-use Rattle.qprop_cli.specs.Outcome.{SettledOutput, CheckOutput, CentralOutput, FramesOutput, IsRefusedBy, IsUnserved, WritesBlocks, by_step, by_central, IsDue, AddsDue}
+use Rattle.qprop_cli.specs.Outcome.{SettledOutput, CheckOutput, CentralOutput, FramesOutput, IsRefusedBy, WritesBlocks, by_step, by_central, IsDue, AddsDue}
 use Rattle.qprop_cli.specs.Refusals.{refusal_line}
 use Rattle.qprop_cli.specs.Run.{AddsSettled, AddsBlocks, HasDone}
 use Rattle.qprop_cli.specs.Streams.{ReadsWhole, ReadsUpTo, AddsBeginning}
@@ -37,11 +37,7 @@ module _ (left_old left_new held_old held_new : Option (List ℕ)) where
 
   pub refusal_due : (read : List ℕ) (refusal : Refusal) → ReadsUpTo 1048576 left_old left_new read → IsRefusal mode.Step read refusal →
       AddsBeginning held_old held_new (refusal_line refusal) → AddsDue (Some Step) left_old left_new held_old held_new
-  refusal_due read refusal whole refused = refused_due Step read refusal whole (inl refused)
-
-  pub unserved_due : (read : List ℕ) (refusal : Refusal) → ReadsUpTo 1048576 left_old left_new read → IsUnserved read refusal →
-      AddsBeginning held_old held_new (refusal_line refusal) → AddsDue (Some Step) left_old left_new held_old held_new
-  unserved_due read refusal whole refused = refused_due Step read refusal whole (inr refused)
+  refusal_due = refused_due Step
 
   pub plain_refusal_due : (read : List ℕ) (refusal : Refusal) → ReadsUpTo 1048576 left_old left_new read → IsRefusal mode.Plain read refusal →
       AddsBeginning held_old held_new (refusal_line refusal) → AddsDue (Some Check) left_old left_new held_old held_new
@@ -93,7 +89,7 @@ module _ (left_old left_new held_old held_new : Option (List ℕ)) where
   check_output read legs whole accepted gained =
       record { read = read; whole = whole_read read accepted.1.short whole; legs = legs; accepted = accepted; gained = gained }
 
-  pub settled_output : (read : List ℕ) (legs : List Leg) (network : Settling) → ReadsUpTo 1048576 left_old left_new read → HasLegs mode.Step read legs →
+  pub settled_output : (read : List ℕ) (legs : List Leg) (network : Net) → ReadsUpTo 1048576 left_old left_new read → HasLegs mode.Step read legs →
       AreLegsAfter [] legs → AddsSettled held_old held_new legs → HasDone legs network → SettledOutput left_old left_new held_old held_new (Some network)
   settled_output read legs network whole accepted each run done =
       record {

@@ -3,8 +3,8 @@
 use Rattle.std.proofs.Common.{◌≡◌, ◌∙◌, sym, ap, subst, refl, ℕ, zero, suc, ◌+◌, ◌<◌, arith, List, [], ◌∷◌, ◌++◌, append_assoc, append-nil, length, take, slice_index_or}
 use Rattle.svc_graph.specs.Central.{AreCentral}
 use Rattle.svc_graph.specs.History.{Row}
-use Rattle.svc_text.specs.declared.plan.Leg.{Leg}
-use Rattle.svc_text.specs.Rows.{rows_after, rows_after_all, IsLegAfter, AreLegsAfter}
+use Rattle.svc_plan.specs.declared.plan.Leg.{Leg}
+use Rattle.svc_plan.specs.Rows.{rows_after, rows_after_all, IsLegAfter, AreLegsAfter}
 use Rattle.svc_value.specs.declared.value.Value.{Value}
 use Rattle.trace_text.specs.Settled.{Settles, settled_block}
 

@@ -1,7 +1,10 @@
+pub mod Complete
 pub mod Counting
 pub mod Due
 pub mod Legs
+pub mod NamedSteps
 pub mod Runs
+pub mod Stepped
 pub mod Streaming
 pub mod Values
 pub mod Writes

@@ -1,17 +1,21 @@
 -- A run of legs goes on by one leg.
 -- Where `i` legs were run, the rows are those after the front `take i legs`, and the text that was added is theirs; so it stays with one leg more.
-use Rattle.std.proofs.Common.{◌≡◌, ◌∙◌, sym, ap, subst, refl, ℕ, ◌+◌, ◌<◌, true, List, [], ◌++◌, ◌⊎◌, inl, inr, Option, Result, Ok, Err, OnOk, OnErr, append_assoc, append-nil, length, take, drop, take-append-drop, slice_index_or}
+use Rattle.std.proofs.Common.{◌≡◌, ◌∙◌, sym, ap, subst, refl, ℕ, ◌+◌, ◌<◌, true, List, [], ◌∷◌, ◌++◌, ◌⊎◌, inl, inr, Option, Result, Ok, Err, OnOk, OnErr, append_assoc, append-nil, length, take, drop, take-append-drop, slice_index_or}
+use Rattle.std.proofs.lemmas.List.{take_more}
 use Rattle.std.proofs.KnownBytes.{Appends-nil, Appends-trans, Appends-kept}
 use Rattle.std.specs.Io.KnownBytes.{Keeps}
 use Rattle.propagation.specs.History.{Central}
-use Rattle.settle_core.specs.Settling.{Settling, IsSettled}
+use Rattle.settle_core.specs.Quiet.{is_quiet}
+use Rattle.settle_core.specs.Net.{Net}
 use Rattle.svc_graph.specs.Central.{AreCentral}
 use Rattle.svc_graph.specs.History.{Row}
-use Rattle.svc_text.specs.declared.plan.Leg.{Leg}
-use Rattle.svc_text.specs.Rows.{rows_after, rows_after_all, IsLegAfter, AreLegsAfter}
+use Rattle.svc_plan.specs.declared.plan.Leg.{Leg}
+use Rattle.svc_plan.specs.Rows.{rows_after, rows_after_all, IsLegAfter, AreLegsAfter}
 use Rattle.trace_text.specs.Settled.{Settles, settled_block}
-use Rattle.qprop_cli.specs.Run.{IsBlock, AddsBlock, BeginsBlock, AddsSettled, AddsBlocks, HasDone}
+use Rattle.qprop_cli.specs.Run.{IsBlock, AddsBlock, BeginsBlock, AddsSettled, AddsBlocks, HoldsCentral, HasRun, EndsWith, HasDone}
+use Rattle.qprop_cli.specs.Stepping.{AreNamed, EachNamed}
 use Rattle.qprop_cli.proofs.Legs.{leg_at, rows_more, settles_more}
+use Rattle.qprop_cli.proofs.NamedSteps.{named_at}
 
 -- what holds anyway holds of an error
 pub on_error : {T E : Type 0} (result : Result T E) (P : Type 0) → P → OnErr result P
@@ -25,9 +29,14 @@ on_answer (Err error) P p = tt
 
 -- ---- no leg
 
-pub done_none : (network : Settling) → network ≡ record { rows = []; quiet = true; last = [] } → HasDone [] network
+pub done_none : (network : Net) → network ≡ record { rows = []; services = []; links = [] } → HasDone [] network
 done_none network new =
-    subst (λ n. HasDone [] n) (sym new) (record { histories = refl; quiet = refl; settled = record { values = []; all = refl; central = Central.none } })
+    subst (λ (n : Net). HasDone [] n) (sym new) (record {
+      histories = refl;
+      quiet = refl;
+      holds = record { values = []; held = refl; central = Central.none };
+      last = EndsWith.no_leg;
+    })
 
 pub settled_none : (held : Option (List ℕ)) → AddsSettled held held []
 settled_none held = record { text = []; settles = Settles.none; added = Appends-nil held }
@@ -46,8 +55,23 @@ module _ (legs : List Leg) (i : ℕ) (leg : Leg) (rows : List Row) (there : i < 
   pub rows_next : rows_after rows leg ≡ rows_after_all [] (take (i + 1) legs)
   rows_next = after ∙ sym (rows_more [] legs i leg there)
 
-  pub done_more : (new : Settling) → new.rows ≡ rows_after rows leg → new.quiet ≡ true → IsSettled new → HasDone (take (i + 1) legs) new
-  done_more new histories quiet settled = record { histories = histories ∙ rows_next; quiet = quiet; settled = settled }
+  pub next_named : EachNamed [] legs → AreNamed (length (rows_after rows leg)) leg.steps
+  next_named each =
+      let P : Leg → Type 0 = λ l. AreNamed (length (rows_after (rows_after_all [] (take i legs)) l)) l.steps in
+      let Q : List Row → Type 0 = λ r. AreNamed (length (rows_after r leg)) leg.steps in
+      subst Q (sym before) (subst P (sym next) (named_at [] legs i leg there each))
+
+  pub done_more : (new : Net) → new.rows ≡ rows_after rows leg → is_quiet new ≡ true → HoldsCentral new → HasRun rows leg new → HasDone (take (i + 1) legs) new
+  done_more new histories quiet holds ran =
+      let P : List Row → Type 0 = λ r. HasRun r leg new in
+      let Q : List Leg → Type 0 = λ ls. EndsWith ls new in
+      let more : take (i + 1) legs ≡ take i legs ++ leg ∷ [] = take_more legs i leg there ∙ ap (λ (l : Leg). take i legs ++ l ∷ []) (sym next) in
+      record {
+        histories = histories ∙ rows_next;
+        quiet = quiet;
+        holds = holds;
+        last = subst Q (sym more) (EndsWith.last_leg (take i legs) leg (subst P before ran));
+      }
 
   settles_block : (text block : List ℕ) → Settles 0 [] (take i legs) text → IsBlock (i + 1) (rows_after rows leg) block → Settles 0 [] (take (i + 1) legs) (text ++ block)
   settles_block text block so_far is =

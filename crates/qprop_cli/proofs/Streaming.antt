@@ -1,7 +1,7 @@
 -- What stands in front of a stream, a stream with one frame more, and that a stream has one reading.
 use Rattle.std.proofs.Common.{◌≡◌, ◌∙◌, sym, ap, refl, subst, ℕ, ◌+◌, ◌≤◌, ◌≢◌, inl, inr, List, [], ◌∷◌, ◌++◌, length, take, drop, arith, append_assoc, append-nil, flat_map}
 use Rattle.std.proofs.lemmas.List.{length-append, take_all, take_at, append_cancel_left, flat_map_more}
-use Rattle.svc_text.specs.declared.refusal.Refusal.{Refusal}
+use Rattle.document_reading.specs.declared.refusal.Refusal.{Refusal}
 use Rattle.wire_frame.specs.declared.frame.Frame.{Frame}
 use Rattle.wire_frame.specs.declared.reason.FrameReason.{FrameReason}
 use Rattle.wire_frame.specs.Frames.{FrameOf}

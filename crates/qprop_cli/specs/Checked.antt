@@ -1,6 +1,6 @@
 -- The line that an accepted document is answered with.
 use Rattle.std.specs.Prelude.{ℕ, ◌+◌, List, [], ◌∷◌, ◌++◌, length, codes}
-use Rattle.svc_text.specs.declared.plan.Leg.{Leg}
+use Rattle.svc_plan.specs.declared.plan.Leg.{Leg}
 use Rattle.qprop_cli.specs.FrameText.{number_text}
 
 -- how many services the legs declare

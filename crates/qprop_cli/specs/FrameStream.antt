@@ -1,7 +1,7 @@
 -- Streams of frames, and what is refused of other bytes.
 use Rattle.std.specs.Prelude.{◌≡◌, ◌≢◌, ℕ, ◌+◌, ◌<◌, ◌≤◌, ◌⊎◌, List, [], ◌∷◌, ◌++◌, length, flat_map}
-use Rattle.svc_text.specs.declared.refusal.Code.TheVariants.{E01, E20}
-use Rattle.svc_text.specs.declared.refusal.Refusal.{Refusal}
+use Rattle.document_reading.specs.declared.refusal.Code.TheVariants.{E01, E20}
+use Rattle.document_reading.specs.declared.refusal.Refusal.{Refusal}
 use Rattle.wire_frame.specs.declared.frame.Frame.{Frame}
 use Rattle.wire_frame.specs.Frames.{FrameOf}
 use Rattle.wire_frame.specs.Stream.{framed}

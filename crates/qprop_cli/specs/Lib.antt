@@ -5,4 +5,5 @@ pub mod Outcome
 pub mod Refusals
 pub mod Run
 pub mod Status
+pub mod Stepping
 pub mod Streams

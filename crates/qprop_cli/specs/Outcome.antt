@@ -1,22 +1,21 @@
 -- What a call has read and written when it ends.
-use Rattle.std.specs.Prelude.{◌≡◌, ◌⊎◌, ℕ, List, [], ◌++◌, Option, None, Some, IfSome}
+use Rattle.std.specs.Prelude.{ℕ, List, [], ◌++◌, Option, None, Some, IfSome}
 use Rattle.std.specs.Io.KnownBytes.{Appends}
-use Rattle.settle_core.specs.Serving.{IsFirstUnserved}
-use Rattle.settle_core.specs.Settling.{Settling}
-use Rattle.svc_text.specs.declared.plan.Leg.{Leg}
-use Rattle.svc_text.specs.declared.plan.Mode.{Mode}
-use Rattle.svc_text.specs.declared.plan.Mode.TheVariants as mode
-use Rattle.svc_text.specs.declared.refusal.Code.TheVariants.{E04}
-use Rattle.svc_text.specs.declared.refusal.Refusal.{Refusal}
-use Rattle.svc_text.specs.Document.{HasLegs, IsAccepted, IsRefusal}
-use Rattle.svc_text.specs.Generator.{generated}
+use Rattle.settle_core.specs.Net.{Net}
+use Rattle.svc_plan.specs.declared.plan.Leg.{Leg}
+use Rattle.svc_plan.specs.declared.plan.Mode.{Mode}
+use Rattle.svc_plan.specs.declared.plan.Mode.TheVariants as mode
+use Rattle.document_reading.specs.declared.refusal.Refusal.{Refusal}
+use Rattle.document_reading.specs.Document.{HasLegs, IsAccepted, IsRefusal}
+use Rattle.document_generator.specs.Generator.{generated}
 use Rattle.trace_text.specs.Settled.{Settles}
 use Rattle.trace_text.specs.Untraced.{untraced}
+use Rattle.wire_frame.specs.declared.frame.Frame.{Frame}
 use Rattle.command_words.specs.declared.command.Command.{Command}
 use Rattle.command_words.specs.declared.command.Command.TheVariants.{Step, Check, Central, Frames, Make}
 use Rattle.command_words.specs.declared.size.Size.{Size}
 use Rattle.qprop_cli.specs.Checked.{accepted_line}
-use Rattle.qprop_cli.specs.FrameStream.{HasLines, IsStreamRefusal}
+use Rattle.qprop_cli.specs.FrameStream.{HasFrames, HasLines, IsStreamRefusal}
 use Rattle.qprop_cli.specs.Refusals.{refusal_line}
 use Rattle.qprop_cli.specs.Run.{HasDone}
 use Rattle.qprop_cli.specs.Streams.{ReadsWhole, ReadsUpTo, AddsBeginning}
@@ -24,7 +23,7 @@ use Rattle.command_words.specs.Words.{usage_line}
 
 -- the source was read to its end, what it gave is a document with these legs, what was added is their settled text but for trace lines,
 -- and the network has done them
-pub record SettledOutput (left_old left_new held_old held_new : Option (List ℕ)) (network : Option Settling) : Type 0 where
+pub record SettledOutput (left_old left_new held_old held_new : Option (List ℕ)) (network : Option Net) : Type 0 where
   pub read : List ℕ
   pub whole : ReadsWhole left_old left_new read
   pub legs : List Leg
@@ -60,16 +59,18 @@ pub record FramesOutput (left_old left_new held_old held_new : Option (List ℕ)
   pub gained : Appends held_old held_new added
   pub lines : HasLines read added
 
--- the refusal of an accepted document that the first network does not serve, at its first such line
-pub record IsUnserved (bytes : List ℕ) (refusal : Refusal) : Type 0 where
-  pub accepted : IsAccepted mode.Step bytes
-  pub line : IsFirstUnserved bytes refusal.line
-  pub code : refusal.code ≡ E04
+-- what a command reads is accepted: a document, or a stream of frames; `make` reads nothing
+abbrev pub IsAcceptedBy : Command → List ℕ → Type 0
+IsAcceptedBy Step bytes = IsAccepted mode.Step bytes
+IsAcceptedBy Check bytes = IsAccepted mode.Plain bytes
+IsAcceptedBy Central bytes = IsAccepted mode.Plain bytes
+IsAcceptedBy Frames bytes = (frames : List Frame) × HasFrames bytes frames
+IsAcceptedBy (Make size) bytes = Unit {0}
 
 -- the refusal of what a command reads: of a document by `step`, `check` and `central`, and of a stream of frames by `frames`; `make` reads nothing
 abbrev pub IsRefusedBy : Option Command → List ℕ → Refusal → Type 0
 IsRefusedBy None bytes refusal = ⊥
-IsRefusedBy (Some Step) bytes refusal = IsRefusal mode.Step bytes refusal ⊎ IsUnserved bytes refusal
+IsRefusedBy (Some Step) bytes refusal = IsRefusal mode.Step bytes refusal
 IsRefusedBy (Some Check) bytes refusal = IsRefusal mode.Plain bytes refusal
 IsRefusedBy (Some Central) bytes refusal = IsRefusal mode.Plain bytes refusal
 IsRefusedBy (Some Frames) bytes refusal = IsStreamRefusal bytes refusal

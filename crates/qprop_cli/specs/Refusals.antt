@@ -1,8 +1,8 @@
 -- The line that a refused document or stream is answered with.
 use Rattle.std.specs.Prelude.{ℕ, pos, List, ◌++◌, codes}
-use Rattle.svc_text.specs.declared.refusal.Code.{Code}
-use Rattle.svc_text.specs.declared.refusal.Code.TheVariants.{E01, E02, E03, E04, E05, E06, E07, E08, E09, E10, E11, E12, E13, E14, E15, E16, E17, E18, E19, E20, E21}
-use Rattle.svc_text.specs.declared.refusal.Refusal.{Refusal}
+use Rattle.document_reading.specs.declared.refusal.Code.{Code}
+use Rattle.document_reading.specs.declared.refusal.Code.TheVariants.{E01, E02, E03, E04, E05, E06, E07, E08, E09, E10, E11, E12, E13, E14, E15, E16, E17, E18, E19, E20, E21}
+use Rattle.document_reading.specs.declared.refusal.Refusal.{Refusal}
 use Rattle.svc_value.specs.Printed.{printed}
 use Rattle.svc_value.specs.declared.value.Value.TheVariants.{Int}
 

@@ -10,8 +10,8 @@ use crate::outcome::ended;
 use crate::refusing::refusal_text;
 use crate::writing::write_all;
 use crate::{Outcome, Status, USAGE};
+use document_reading::Refusal;
 use std::alloc::Global;
-use svc_text::Refusal;
 use svc_value::Sink;
 
 /// Writes the usage line.

@@ -10,8 +10,9 @@ use crate::outcome::ended;
 use crate::reading::{ReadError, read_all};
 use crate::writing::write_all;
 use crate::{Command, Outcome, Status};
+use document_reading::{DocError, Refusal, read_document};
 use std::alloc::Global;
-use svc_text::{DocError, Mode, Refusal, read_document};
+use svc_plan::Mode;
 use svc_value::{Sink, Source};
 
 /// Reads a document and writes its counts.

@@ -1,10 +1,10 @@
 // What an accepted document counts.
 ghost use Rattle.std.specs.Prelude.{◌≡◌, ◌≤◌, [], length, IfOk};
-ghost use Rattle.svc_text.specs.Rows.{AreLegsAfter};
+ghost use Rattle.svc_plan.specs.Rows.{AreLegsAfter};
 ghost use Rattle.qprop_cli.specs.Checked.{accepted_line, change_count, service_count};
 
 use std::alloc::Global;
-use svc_text::Leg;
+use svc_plan::Leg;
 use svc_value::{OutOfMemory, Value, print_value};
 
 // How many services the legs declare, and how many changes they make.

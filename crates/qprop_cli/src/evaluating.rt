@@ -1,7 +1,7 @@
 // The settled text of legs by the central evaluation.
 ghost use Rattle.std.specs.Prelude.{◌≤◌, ◌⊎◌, ◌≡◌, [], length, OnOk, OnErr, IsErrOf};
 ghost use Rattle.std.specs.Io.KnownBytes.{Keeps};
-ghost use Rattle.svc_text.specs.Rows.{rows_after, EachBorn, IsLegAfter, AreLegsAfter};
+ghost use Rattle.svc_plan.specs.Rows.{rows_after, EachBorn, IsLegAfter, AreLegsAfter};
 ghost use Rattle.svc_value.specs.Causes.{Rose};
 ghost use Rattle.qprop_cli.specs.Run.{IsBlock, AddsBlock, BeginsBlock, AddsSettled, AddsBlocks};
 
@@ -10,7 +10,7 @@ use crate::writing::write_all;
 use central_eval::central;
 use std::alloc::Global;
 use svc_graph::Book;
-use svc_text::{Leg, extend};
+use svc_plan::{Leg, extend};
 use svc_value::{OutOfMemory, Sink};
 use trace_text::settled_text;
 

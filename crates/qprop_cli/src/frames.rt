@@ -10,8 +10,8 @@ use crate::reading::{ReadError, read_all};
 use crate::stream::{StreamStop, frames_text};
 use crate::writing::write_all;
 use crate::{Command, Outcome, Status};
+use document_reading::Refusal;
 use std::alloc::Global;
-use svc_text::Refusal;
 use svc_value::{Sink, Source};
 
 /// Reads a stream of frames and writes their lines. Nothing is written before the whole stream is read.

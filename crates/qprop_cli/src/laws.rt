@@ -1,6 +1,6 @@
 // A law of streams of frames.
 ghost use Rattle.std.specs.Prelude.{◌≡◌, ℕ, List};
-ghost use Rattle.svc_text.specs.declared.refusal.Refusal.{Refusal};
+ghost use Rattle.document_reading.specs.declared.refusal.Refusal.{Refusal};
 ghost use Rattle.wire_frame.specs.declared.frame.Frame.{Frame};
 ghost use Rattle.qprop_cli.specs.FrameStream.{IsStream, HasFrames, IsFirstWrong, IsStreamRefusal};
 

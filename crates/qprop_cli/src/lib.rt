@@ -16,9 +16,8 @@ mod reading;
 mod refusing;
 mod run;
 mod step;
+mod stepping;
 mod stream;
-#[cfg(test)]
-mod tests;
 mod writing;
 
 pub use command_words::{Command, Size, USAGE};

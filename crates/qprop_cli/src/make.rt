@@ -1,7 +1,7 @@
 // The command `make`.
 ghost use Rattle.std.specs.Prelude.{◌≡◌, ◌⊎◌, None};
 ghost use Rattle.std.specs.Io.KnownBytes.{Appends, Keeps};
-ghost use Rattle.svc_text.specs.Generator.{generated};
+ghost use Rattle.document_generator.specs.Generator.{generated};
 ghost use Rattle.svc_value.specs.Causes.{Rose};
 ghost use Rattle.qprop_cli.specs.Streams.{AddsBeginning};
 ghost use Rattle.command_words.specs.Words.{IsSize};
@@ -9,8 +9,8 @@ ghost use Rattle.command_words.specs.Words.{IsSize};
 use crate::outcome::ended;
 use crate::writing::write_all;
 use crate::{Outcome, Size, Status};
+use document_generator::make_document;
 use std::alloc::Global;
-use svc_text::make_document;
 use svc_value::Sink;
 
 /// Makes a document of this size and writes it.

@@ -2,8 +2,8 @@
 ghost use Rattle.std.specs.Prelude.{◌≡◌, None};
 ghost use Rattle.qprop_cli.specs.Status.{exit_status};
 
+use document_reading::Refusal;
 use settle_core::Network;
-use svc_text::Refusal;
 
 /// How a call ended.
 #[derive(Clone, Copy, Debug, PartialEq, Eq)]

@@ -1,12 +1,12 @@
 // The top call without threads.
-ghost use Rattle.std.specs.Prelude.{◌≡◌, ◌≢◌, ◌⊎◌, ◌↔◌, map, Some, None, IsSome};
+ghost use Rattle.std.specs.Prelude.{◌≡◌, ◌≢◌, ◌⊎◌, ◌↔◌, ℕ, List, map, Some, None, IsSome};
 ghost use Rattle.std.specs.Io.KnownBytes.{Appends, Keeps};
 ghost use Rattle.std.specs.String.{string_bytes};
-ghost use Rattle.svc_text.specs.declared.refusal.Refusal.{Refusal};
-ghost use Rattle.svc_text.specs.Generator.{generated};
+ghost use Rattle.document_reading.specs.declared.refusal.Refusal.{Refusal};
+ghost use Rattle.document_generator.specs.Generator.{generated};
 ghost use Rattle.command_words.specs.declared.size.Size.{Size};
 ghost use Rattle.svc_value.specs.Causes.{Rose};
-ghost use Rattle.qprop_cli.specs.Outcome.{SettledOutput, CheckOutput, CentralOutput, FramesOutput, RefusedOutput, AddsDue};
+ghost use Rattle.qprop_cli.specs.Outcome.{SettledOutput, CheckOutput, CentralOutput, FramesOutput, IsAcceptedBy, RefusedOutput, AddsDue};
 ghost use Rattle.command_words.specs.Words.{command_of, usage_line};
 
 use crate::answers::usage;
@@ -55,6 +55,10 @@ pub fn qprop_plain<S: Source, K: Sink>(
         AddsDue (command_of (map string_bytes words.now)) (S.left source.old) (S.left source.new) (K.held sink.old) (K.held sink.new) }
     ensures memory { result.status ≡ Status.OutOfMemory → Keeps (K.held sink.old) (K.held sink.new)
         ⊎ AddsDue (command_of (map string_bytes words.now)) (S.left source.old) (S.left source.new) (K.held sink.old) (K.held sink.new) }
+
+    // What is accepted is done, unless a source or a sink fails or memory is wanting.
+    ensures complete { (command : Command) (read : List ℕ) → command_of (map string_bytes words.now) ≡ Some command → S.left source.old ≡ Some read → IsAcceptedBy command read →
+        ¬ (Rose (S.faults source.old) (S.faults source.new)) → ¬ (Rose (K.faults sink.old) (K.faults sink.new)) → (result.status ≡ Status.Done) ⊎ (result.status ≡ Status.OutOfMemory) }
 
     // No archive is asked, and nothing is judged.
     ensures no_keep_fault { result.status ≢ Status.KeepFault }

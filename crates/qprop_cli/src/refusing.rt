@@ -2,8 +2,8 @@
 ghost use Rattle.std.specs.Prelude.{◌≡◌, IfOk};
 ghost use Rattle.qprop_cli.specs.Refusals.{code_text, refusal_line};
 
+use document_reading::{Code, Refusal};
 use std::alloc::Global;
-use svc_text::{Code, Refusal};
 use svc_value::{OutOfMemory, Value, print_value};
 
 /// The name of a code, as it is printed.

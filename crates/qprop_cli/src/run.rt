@@ -1,16 +1,17 @@
 // Settling the legs of a document, one after another.
-ghost use Rattle.std.specs.Prelude.{◌≡◌, ◌≤◌, ◌⊎◌, [], true, length, All, IfOk, OnOk, OnErr, IsErrOf};
+ghost use Rattle.std.specs.Prelude.{◌≡◌, ◌≤◌, ◌⊎◌, [], true, length, IfOk, OnOk, OnErr, IsErrOf};
 ghost use Rattle.std.specs.Io.KnownBytes.{Keeps};
-ghost use Rattle.settle_core.specs.Serving.{IsServed};
-ghost use Rattle.settle_core.specs.Settling.{IsSettled};
-ghost use Rattle.svc_text.specs.Rows.{rows_after, IsLegAfter, AreLegsAfter};
+ghost use Rattle.settle_core.specs.Quiet.{is_quiet};
+ghost use Rattle.svc_plan.specs.Rows.{rows_after, IsLegAfter, AreLegsAfter};
 ghost use Rattle.svc_value.specs.Causes.{Rose};
-ghost use Rattle.qprop_cli.specs.Run.{IsBlock, AddsBlock, BeginsBlock, AddsSettled, AddsBlocks, HasDone};
+ghost use Rattle.qprop_cli.specs.Run.{IsBlock, AddsBlock, BeginsBlock, AddsSettled, AddsBlocks, HoldsCentral, HasRun, HasDone};
+ghost use Rattle.qprop_cli.specs.Stepping.{AreNamed, EachNamed};
 
+use crate::stepping::make_steps;
 use crate::writing::write_all;
 use settle_core::Network;
 use std::alloc::Global;
-use svc_text::Leg;
+use svc_plan::Leg;
 use svc_value::{Failed, OutOfMemory, Sink};
 use trace_text::settled_text;
 
@@ -45,7 +46,7 @@ impl From<Failed> for Stop {
     }
 }
 
-/// Settles the leg number `k`, from 1, and puts its block in place of `text`.
+/// Settles the leg number `k`, from 1: opens it, makes the events of its step lines, drains, and puts its block in place of `text`.
 #[tactic(auto, using(crate::proofs::Values::values_length))]
 fn settle_leg(
     network: &mut Network,
@@ -53,16 +54,20 @@ fn settle_leg(
     leg: &Leg,
     text: &mut Vec<u8>,
 ) -> Result<(), OutOfMemory>
-    requires quiet { network.old.quiet ≡ true }
+    requires quiet { is_quiet network.old ≡ true }
     requires leg { IsLegAfter network.old.rows leg.now }
-    requires served { IsServed leg.now }
+    requires named { AreNamed (length (rows_after network.old.rows leg.now)) leg.now.steps }
     ensures rows { OnOk result (network.new.rows ≡ rows_after network.old.rows leg.now) }
-    ensures quiet { OnOk result (network.new.quiet ≡ true) }
-    ensures settled { OnOk result (IsSettled network.new) }
+    ensures quiet { OnOk result (is_quiet network.new ≡ true) }
+    ensures holds { OnOk result (HoldsCentral network.new) }
+    ensures ran { OnOk result (HasRun network.old.rows leg.now network.new) }
     ensures block { OnOk result (IsBlock k (rows_after network.old.rows leg.now) text.new.items) }
 {
     network.open_leg(leg)?;
+    make_steps(network, leg.steps.as_slice())?;
+    network.kept();
     network.drain()?;
+    network.kept();
     let values = network.values()?;
     text.clear();
     settled_text(k, network.book(), &values, text)
@@ -76,12 +81,13 @@ fn write_leg<K: Sink>(
     text: &mut Vec<u8>,
     sink: &mut K,
 ) -> Result<(), Stop>
-    requires quiet { network.old.quiet ≡ true }
+    requires quiet { is_quiet network.old ≡ true }
     requires leg { IsLegAfter network.old.rows leg.now }
-    requires served { IsServed leg.now }
+    requires named { AreNamed (length (rows_after network.old.rows leg.now)) leg.now.steps }
     ensures rows { OnOk result (network.new.rows ≡ rows_after network.old.rows leg.now) }
-    ensures quiet { OnOk result (network.new.quiet ≡ true) }
-    ensures settled { OnOk result (IsSettled network.new) }
+    ensures quiet { OnOk result (is_quiet network.new ≡ true) }
+    ensures holds { OnOk result (HoldsCentral network.new) }
+    ensures ran { OnOk result (HasRun network.old.rows leg.now network.new) }
     ensures added { OnOk result (AddsBlock (K.held sink.old) (K.held sink.new) k (rows_after network.old.rows leg.now)) }
     ensures begun { OnErr result ((Keeps (K.held sink.old) (K.held sink.new)) ⊎ BeginsBlock (K.held sink.old) (K.held sink.new) k (rows_after network.old.rows leg.now)) }
     ensures later { K.faults sink.old ≤ K.faults sink.new }
@@ -100,7 +106,7 @@ pub(crate) fn settle_legs<K: Sink>(
     sink: &mut K,
 ) -> Result<Network, Stop>
     requires legs { AreLegsAfter [] legs.now }
-    requires served { All IsServed legs.now }
+    requires named { EachNamed [] legs.now }
     requires few { length legs.now ≤ 1000 }
     ensures settled { OnOk result (AddsSettled (K.held sink.old) (K.held sink.new) legs.now) }
     ensures network { IfOk result (λ network. HasDone legs.now network) }

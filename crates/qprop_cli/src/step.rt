@@ -9,14 +9,13 @@ use crate::outcome::ended;
 use crate::reading::{ReadError, read_all};
 use crate::run::{Stop, settle_legs};
 use crate::{Command, Outcome, Status};
-use settle_core::first_unserved;
+use document_reading::{DocError, Refusal, read_document};
 use std::alloc::Global;
-use svc_text::{Code, DocError, Mode, Refusal, read_document};
+use svc_plan::Mode;
 use svc_value::{Sink, Source};
 
-/// Reads a document and settles it leg by leg. A document is refused too where its first line that the network does not serve
-/// stands, with `E04`.
-#[tactic(auto, using(crate::proofs::Due::refusal_due, crate::proofs::Due::unserved_due, crate::proofs::Due::blocks_due, crate::proofs::Due::settled_output))]
+/// Reads a document and settles it leg by leg.
+#[tactic(auto, using(crate::proofs::Due::refusal_due, crate::proofs::Due::blocks_due, crate::proofs::Due::settled_output))]
 pub(crate) fn step<S: Source, K: Sink>(alloc: Global, source: &mut S, sink: &mut K) -> Outcome
     ensures settled { result.status ≡ Status.Done → SettledOutput (S.left source.old) (S.left source.new) (K.held sink.old) (K.held sink.new) result.network }
     ensures network { IsSome result.network ↔ (result.status ≡ Status.Done) }
@@ -43,14 +42,6 @@ pub(crate) fn step<S: Source, K: Sink>(alloc: Global, source: &mut S, sink: &mut
         Err(DocError::Refused(refusal)) => return refuse(alloc, refusal, sink),
         Err(DocError::OutOfMemory) => return ended(Status::OutOfMemory),
     };
-    match first_unserved(alloc, &bytes) {
-        Ok(None) => {}
-        Ok(Some(line)) => {
-            let code = Code::E04;
-            return refuse(alloc, Refusal { line, code }, sink);
-        }
-        Err(_) => return ended(Status::OutOfMemory),
-    }
     match settle_legs(alloc, plan.legs.as_slice(), sink) {
         Ok(network) => Outcome {
             status: Status::Done,

@@ -1,6 +1,6 @@
 // The frames of a stream, as lines.
 ghost use Rattle.std.specs.Prelude.{◌≡◌, ◌++◌, ℕ, flat_map, Ok, Err, None, IfOk, IfSome};
-ghost use Rattle.svc_text.specs.declared.refusal.Refusal.{Refusal as AnyRefusal};
+ghost use Rattle.document_reading.specs.declared.refusal.Refusal.{Refusal as AnyRefusal};
 ghost use Rattle.wire_frame.specs.Frames.{FrameOf};
 ghost use Rattle.wire_frame.specs.Taking.{IsFrame};
 ghost use Rattle.qprop_cli.specs.FrameText.{frame_line};
@@ -8,8 +8,8 @@ ghost use Rattle.qprop_cli.specs.FrameStream.{BeginsWithFrame, HasFrames, IsStre
 
 use crate::LONGEST_DOCUMENT;
 use crate::frame_text::push_frame;
+use document_reading::{Code, Refusal};
 use std::alloc::Global;
-use svc_text::{Code, Refusal};
 use svc_value::OutOfMemory;
 use wire_frame::{CutError, Cutter, Frame, FrameError, read_frame};
 

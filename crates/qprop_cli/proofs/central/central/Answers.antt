@@ -1,6 +1,6 @@
 use Rattle.std.proofs.Common.{subst, List, ℕ}
-use Rattle.svc_text.specs.declared.plan.Mode.TheVariants as mode
-use Rattle.svc_text.specs.Document.{IsRefusal}
+use Rattle.svc_plan.specs.declared.plan.Mode.TheVariants as mode
+use Rattle.document_reading.specs.Document.{IsRefusal}
 use Rattle.qprop_cli.proofs.Due.{central_refusal_due}
 use Rattle.qprop_cli.proofs.central.central.Goals as goal
 

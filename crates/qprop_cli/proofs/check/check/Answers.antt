@@ -1,7 +1,7 @@
 use Rattle.std.proofs.Common.{ap, ◌∙◌, subst, List, ℕ}
 use Rattle.std.specs.Io.KnownBytes.{Appends}
-use Rattle.svc_text.specs.declared.plan.Mode.TheVariants as mode
-use Rattle.svc_text.specs.Document.{HasLegs, IsRefusal}
+use Rattle.svc_plan.specs.declared.plan.Mode.TheVariants as mode
+use Rattle.document_reading.specs.Document.{HasLegs, IsRefusal}
 use Rattle.qprop_cli.specs.Checked.{accepted_line}
 use Rattle.qprop_cli.specs.Streams.{AddsBeginning}
 use Rattle.qprop_cli.proofs.Due.{plain_refusal_due, check_output, counts_due}

@@ -1,6 +1,6 @@
 use Rattle.std.proofs.Common.{subst, sym}
-use Rattle.svc_text.specs.Rows.{EachBorn}
-use Rattle.svc_text.proofs.BornLemmas.{are_born, leg_born}
+use Rattle.svc_plan.specs.Rows.{EachBorn}
+use Rattle.svc_plan.proofs.BornLemmas.{are_born, leg_born}
 use Rattle.qprop_cli.proofs.Runs.{on_answer}
 use Rattle.qprop_cli.proofs.evaluating.evaluate_leg.Goals as goal
 

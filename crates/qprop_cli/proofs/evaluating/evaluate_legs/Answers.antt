@@ -1,5 +1,5 @@
 use Rattle.std.proofs.Common.{arith, subst, sym, ◌∙◌}
-use Rattle.svc_text.specs.Rows.{EachBorn}
+use Rattle.svc_plan.specs.Rows.{EachBorn}
 use Rattle.qprop_cli.proofs.Runs.{settled_none, next_leg, settled_more, rows_next, stopped, on_error}
 use Rattle.qprop_cli.proofs.evaluating.evaluate_legs.Goals as goal
 

@@ -1,5 +1,5 @@
 use Rattle.std.proofs.Common.{◌≤◌, ◌≡◌, take, []}
-use Rattle.svc_text.specs.Rows.{rows_after_all, EachBorn}
+use Rattle.svc_plan.specs.Rows.{rows_after_all, EachBorn}
 use Rattle.qprop_cli.specs.Run.{AddsSettled}
 use Rattle.qprop_cli.proofs.evaluating.evaluate_legs.Given as goal
 

@@ -1,6 +1,6 @@
 // Documents that are made.
-use super::{Ended, call_with, called};
-use crate::{Status, USAGE};
+use crate::calls::{Ended, call, called};
+use qprop_cli::{Status, USAGE};
 use std::alloc::Global;
 use std::test::Fail;
 
@@ -11,8 +11,8 @@ const SMALL: &str =
 fn documents_are_made(rt: HostRuntime) -> Result<(), Fail> {
     let alloc = rt.alloc();
     let ended = called(alloc, &["make", "3", "5", "1"])?;
-    assert!(rt; ended.outcome.status == Status::Done);
-    assert!(rt; ended.outcome.network.is_none());
+    assert!(rt; ended.status == Status::Done);
+    assert!(rt; !ended.has_network);
     assert_eq!(rt; ended.held.as_slice(), SMALL.as_bytes());
     Ok(())
 }
@@ -39,20 +39,20 @@ fn other_sizes_write_the_usage_line(rt: HostRuntime) -> Result<(), Fail> {
     ];
     for words in rows {
         let ended = called(alloc, words)?;
-        assert!(rt; ended.outcome.status == Status::Usage);
+        assert!(rt; ended.status == Status::Usage);
         assert_eq!(rt; ended.held.as_slice(), USAGE.as_bytes());
     }
     let rows: [&[&str]; 2] = [&["make", "2", "2", "0"], &["make", "64", "1024", "65536"]];
     for words in rows {
         let ended = called(alloc, words)?;
-        assert!(rt; ended.outcome.status == Status::Done);
+        assert!(rt; ended.status == Status::Done);
     }
     Ok(())
 }
 
 // What `check` says of the document.
 fn checked(alloc: Global, document: &[u8]) -> Result<Ended, Fail> {
-    call_with(alloc, "check", document, 4096, 0, 4096, 0)
+    call(alloc, "check", document)
 }
 
 #[test]

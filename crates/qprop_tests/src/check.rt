@@ -1,11 +1,11 @@
 // Documents that are checked.
-use super::{Ended, SUM, call_with, repeated};
-use crate::{LONGEST_DOCUMENT, Status};
+use crate::calls::{Ended, SUM, call, repeated};
+use qprop_cli::{LONGEST_DOCUMENT, Status};
 use std::alloc::Global;
 use std::test::Fail;
 
 fn check(alloc: Global, document: &[u8]) -> Result<Ended, Fail> {
-    call_with(alloc, "check", document, 4096, 0, 4096, 0)
+    call(alloc, "check", document)
 }
 
 // Three services, of which two are derived.
@@ -33,18 +33,18 @@ fn documents_are_counted(rt: HostRuntime) -> Result<(), Fail> {
     ];
     for (document, line) in rows {
         let ended = check(alloc, document.as_bytes())?;
-        assert!(rt; ended.outcome.status == Status::Done, "{document}");
-        assert!(rt; ended.outcome.network.is_none(), "{document}");
+        assert!(rt; ended.status == Status::Done, "{document}");
+        assert!(rt; !ended.has_network, "{document}");
         assert!(rt; ended.held.as_slice() == line.as_bytes(), "{document}");
     }
     Ok(())
 }
 
-// Checks that each line, behind the document, is refused with the code.
-fn refused(alloc: Global, before: &str, line: &str) -> Result<Vec<u8>, Fail> {
+// What the command writes where the line stands behind the document.
+fn refused(alloc: Global, word: &str, before: &str, line: &str) -> Result<Vec<u8>, Fail> {
     let mut document = Vec::from_slice(alloc, before.as_bytes())?;
     document.extend_from_slice(line.as_bytes())?;
-    Ok(check(alloc, document.as_slice())?.held)
+    Ok(call(alloc, word, document.as_slice())?.held)
 }
 
 #[test]
@@ -59,7 +59,6 @@ fn refused_lines_have_their_least_code(rt: HostRuntime) -> Result<(), Fail> {
         (THREE, "set x = \"1\"", "refused 4 E10\n"),
         (THREE, "drop a x", "refused 4 E16\n"),
         (THREE, "add a x", "refused 4 E15\n"),
-        (THREE, "turn x", "refused 4 E18\n"),
         (THREE, "turn q", "refused 4 E08\n"),
         (THREE, "input x : int = 1", "refused 4 E05\n"),
         (THREE, "derived d : int rank 0 = q", "refused 4 E07\n"),
@@ -76,9 +75,13 @@ fn refused_lines_have_their_least_code(rt: HostRuntime) -> Result<(), Fail> {
         (FOUR, "define q = x", "refused 5 E08\n"),
     ];
     for (before, line, answer) in rows {
-        let held = refused(alloc, before, line)?;
-        assert!(rt; held.as_slice() == answer.as_bytes(), "{line}");
+        for word in ["check", "step"] {
+            let held = refused(alloc, word, before, line)?;
+            assert!(rt; held.as_slice() == answer.as_bytes(), "{word} {line}");
+        }
     }
+    let held = refused(alloc, "check", THREE, "turn x")?;
+    assert_eq!(rt; held.as_slice(), b"refused 4 E18\n".as_slice());
     Ok(())
 }
 

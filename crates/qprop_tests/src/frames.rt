@@ -1,8 +1,9 @@
-use super::{Ended, call_with, repeated};
-use crate::{LONGEST_DOCUMENT, Status};
+// Streams of frames.
+use crate::calls::{Ended, call, call_with, repeated};
+use document_reading::{Code, Refusal};
+use qprop_cli::{LONGEST_DOCUMENT, Status};
 use std::alloc::Global;
 use std::test::Fail;
-use svc_text::{Code, Refusal};
 
 // Two frames.
 const STREAM: &[u8] = &[0, 5, 1, 0, 0, 0, 1, 0, 8, 3, 0, 0, 0, 1, 1, 0, 0];
@@ -11,7 +12,7 @@ const STREAM_LINES: &str = "subscribe 1\nsources 1 0\n";
 
 // A call of `frames` on the stream.
 fn frames(alloc: Global, stream: &[u8]) -> Result<Ended, Fail> {
-    call_with(alloc, "frames", stream, 4096, 0, 4096, 0)
+    call(alloc, "frames", stream)
 }
 
 #[test]
@@ -40,8 +41,8 @@ fn streams_are_shown(rt: HostRuntime) -> Result<(), Fail> {
     ];
     for (stream, lines) in rows {
         let ended = frames(alloc, stream)?;
-        assert!(rt; ended.outcome.status == Status::Done, "{lines}");
-        assert!(rt; ended.outcome.network.is_none(), "{lines}");
+        assert!(rt; ended.status == Status::Done, "{lines}");
+        assert!(rt; !ended.has_network, "{lines}");
         assert!(rt; ended.held.as_slice() == lines.as_bytes(), "{lines}");
     }
     let ended = call_with(alloc, "frames", STREAM, 1, 0, 1, 0)?;
@@ -86,8 +87,8 @@ fn wrong_frames_are_numbered(rt: HostRuntime) -> Result<(), Fail> {
             line,
             code: Code::E20,
         };
-        assert!(rt; ended.outcome.status == Status::Refused(refusal), "{name}");
-        assert!(rt; ended.outcome.network.is_none(), "{name}");
+        assert!(rt; ended.status == Status::Refused(refusal), "{name}");
+        assert!(rt; !ended.has_network, "{name}");
     }
     let ended = frames(alloc, &[0, 5, 1, 0, 0, 0, 1, 0])?;
     assert_eq!(rt; ended.held.as_slice(), b"refused 2 E20\n".as_slice());
@@ -111,7 +112,7 @@ fn longest(alloc: Global) -> Result<Vec<u8>, Fail> {
 fn the_limits_of_streams_are_exact(rt: HostRuntime) -> Result<(), Fail> {
     let alloc = rt.alloc();
     let ended = frames(alloc, longest(alloc)?.as_slice())?;
-    assert!(rt; ended.outcome.status == Status::Done);
+    assert!(rt; ended.status == Status::Done);
     assert!(rt; ended.held.as_slice().starts_with(b"value2 1 \"aaaa"));
     assert!(rt; ended.held.as_slice().ends_with(b",62:1,63:1\n"));
     let most = repeated(alloc, "", "\0", LONGEST_DOCUMENT)?;
@@ -127,10 +128,10 @@ fn the_limits_of_streams_are_exact(rt: HostRuntime) -> Result<(), Fail> {
 fn failing_streams_end_a_call_of_frames(rt: HostRuntime) -> Result<(), Fail> {
     let alloc = rt.alloc();
     let ended = call_with(alloc, "frames", STREAM, 4096, 0, 8, 3)?;
-    assert!(rt; ended.outcome.status == Status::WriteFault);
+    assert!(rt; ended.status == Status::WriteFault);
     assert_eq!(rt; ended.held.as_slice(), b"subscribe 1\nsour".as_slice());
     let ended = call_with(alloc, "frames", STREAM, 4, 3, 4096, 0)?;
-    assert!(rt; ended.outcome.status == Status::ReadFault);
+    assert!(rt; ended.status == Status::ReadFault);
     assert!(rt; ended.held.is_empty());
     Ok(())
 }
