@@ -1,15 +1,12 @@
 -- What was added is a beginning of the text due, and at the end all of it.
 use Rattle.std.specs.Io.KnownBytes.{Appends}
-use Rattle.std.proofs.Common.{sym, subst, ℕ, ◌≤◌, inl, inr, arith, List, [], length, Option, None, Some}
+use Rattle.std.proofs.Common.{sym, subst, ℕ, ◌≤◌, inl, inr, arith, List, length, Option, None, Some}
 use Rattle.settle_core.specs.Net.{Net}
 use Rattle.svc_plan.specs.declared.plan.Leg.{Leg}
 use Rattle.svc_plan.specs.declared.plan.Mode.{Mode}
 use Rattle.svc_plan.specs.declared.plan.Mode.TheVariants as mode
-use Rattle.svc_plan.specs.Rows.{AreLegsAfter}
 use Rattle.document_reading.specs.declared.refusal.Refusal.{Refusal}
 use Rattle.document_reading.specs.Document.{HasLegs, IsRefusal}
-use Rattle.trace_text.specs.Settled.{Settles}
-use Rattle.trace_text.proofs.Untracing.{settled_is_untraced}
 use Rattle.command_words.specs.declared.command.Command.{Command}
 use Rattle.command_words.specs.declared.command.Command.TheVariants.{Step, Check, Central, Frames, Make}
 use Rattle.command_words.specs.declared.size.Size.{Size}
@@ -90,8 +87,8 @@ module _ (left_old left_new held_old held_new : Option (List ℕ)) where
       record { read = read; whole = whole_read read accepted.1.short whole; legs = legs; accepted = accepted; gained = gained }
 
   pub settled_output : (read : List ℕ) (legs : List Leg) (network : Net) → ReadsUpTo 1048576 left_old left_new read → HasLegs mode.Step read legs →
-      AreLegsAfter [] legs → AddsSettled held_old held_new legs → HasDone legs network → SettledOutput left_old left_new held_old held_new (Some network)
-  settled_output read legs network whole accepted each run done =
+      AddsSettled held_old held_new legs → HasDone legs network → SettledOutput left_old left_new held_old held_new (Some network)
+  settled_output read legs network whole accepted run done =
       record {
         read = read;
         whole = whole_read read accepted.1.short whole;
@@ -99,7 +96,7 @@ module _ (left_old left_new held_old held_new : Option (List ℕ)) where
         accepted = accepted;
         added = run.text;
         gained = run.added;
-        settles = subst (λ t. Settles 0 [] legs t) (sym (settled_is_untraced 0 [] legs run.text tt each run.settles)) run.settles;
+        settles = run.settles;
         network_done = done;
       }
 

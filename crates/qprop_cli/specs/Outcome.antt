@@ -9,7 +9,6 @@ use Rattle.document_reading.specs.declared.refusal.Refusal.{Refusal}
 use Rattle.document_reading.specs.Document.{HasLegs, IsAccepted, IsRefusal}
 use Rattle.document_generator.specs.Generator.{generated}
 use Rattle.trace_text.specs.Settled.{Settles}
-use Rattle.trace_text.specs.Untraced.{untraced}
 use Rattle.wire_frame.specs.declared.frame.Frame.{Frame}
 use Rattle.command_words.specs.declared.command.Command.{Command}
 use Rattle.command_words.specs.declared.command.Command.TheVariants.{Step, Check, Central, Frames, Make}
@@ -21,8 +20,8 @@ use Rattle.qprop_cli.specs.Run.{HasDone}
 use Rattle.qprop_cli.specs.Streams.{ReadsWhole, ReadsUpTo, AddsBeginning}
 use Rattle.command_words.specs.Words.{usage_line}
 
--- the source was read to its end, what it gave is a document with these legs, what was added is their settled text but for trace lines,
--- and the network has done them
+-- the source was read to its end, what it gave is a document with these legs, what was added is their settled text, and the network has
+-- done them
 pub record SettledOutput (left_old left_new held_old held_new : Option (List ℕ)) (network : Option Net) : Type 0 where
   pub read : List ℕ
   pub whole : ReadsWhole left_old left_new read
@@ -30,7 +29,7 @@ pub record SettledOutput (left_old left_new held_old held_new : Option (List ℕ
   pub accepted : HasLegs mode.Step read legs
   pub added : List ℕ
   pub gained : Appends held_old held_new added
-  pub settles : Settles 0 [] legs (untraced added)
+  pub settles : Settles 0 [] legs added
   pub network_done : IfSome network (λ n. HasDone legs n)
 
 -- the source was read to its end, what it gave is a document with these legs, and its counts were added

@@ -43,7 +43,8 @@ pub fn qprop_plain<S: Source, K: Sink>(
         FramesOutput (S.left source.old) (S.left source.new) (K.held sink.old) (K.held sink.new) }
     ensures made { (size : Size) → command_of (map string_bytes words.now) ≡ Some (Command.Make size) → result.status ≡ Status.Done →
         Appends (K.held sink.old) (K.held sink.new) (generated size.services size.changes size.start) }
-    ensures unread { (size : Size) → command_of (map string_bytes words.now) ≡ Some (Command.Make size) → S.left source.new ≡ S.left source.old }
+    ensures unread { (size : Size) → command_of (map string_bytes words.now) ≡ Some (Command.Make size) → source.new ≡ source.old }
+    ensures unasked { command_of (map string_bytes words.now) ≡ None → source.new ≡ source.old }
     ensures network { IsSome result.network ↔ ((command_of (map string_bytes words.now) ≡ Some Command.Step) × (result.status ≡ Status.Done)) }
     ensures refused { (refusal : Refusal) → result.status ≡ Status.Refused refusal →
         RefusedOutput (command_of (map string_bytes words.now)) (S.left source.old) (S.left source.new) (K.held sink.old) (K.held sink.new) refusal }
