@@ -133,7 +133,7 @@ pub mod More
 TEXT
 cat > $crate/proofs/More.antt <<'TEXT'
 use Rattle.std.proofs.Common.{◌≡◌, ℕ, suc, ◌+◌, ◌<◌, ◌≤◌, List, [], ◌∷◌, ◌++◌, map, All, refl, inl, inr, subst, arith}
-use Rattle.propagation.specs.Words.{Has}
+use Rattle.propagation.specs.Lists.{Has}
 use Rattle.propagation.specs.Stamps.{Rise, RisePairs}
 use Rattle.propagation.proofs.Lists.{Has-append_cases}
 use Rattle.stamp_clock.proofs.RiseLemmas.{rise-append}
@@ -231,14 +231,14 @@ fn choose(slots: &[Slot], floor: &[u32; 64], due: bool) -> Choice {
     for (i, slot) in slots.iter().enumerate() {
         if slot.head.is_none() { return if slot.has_next() { Choice::Advance(i) } else { Choice::Empty(i) }; }
     }
-    let mut tops = *floor;
+    let mut greatest_clocks = *floor;
     for slot in slots {
         if let Some(head) = &slot.head {
             let mut left = head.stamps.present;
             for clock in &head.stamps.clocks {
                 let key = left.trailing_zeros() as usize & 63;
                 left &= left.wrapping_sub(1);
-                tops[key] = tops[key].max(*clock);
+                greatest_clocks[key] = greatest_clocks[key].max(*clock);
             }
         }
     }
@@ -248,7 +248,7 @@ fn choose(slots: &[Slot], floor: &[u32; 64], due: bool) -> Choice {
             for clock in &head.stamps.clocks {
                 let key = left.trailing_zeros() as usize & 63;
                 left &= left.wrapping_sub(1);
-                if *clock < tops[key] {
+                if *clock < greatest_clocks[key] {
                     return if slot.has_next() { Choice::Advance(i) } else { Choice::Lags { slot: i, key: key as u16 } };
                 }
             }

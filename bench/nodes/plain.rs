@@ -128,11 +128,11 @@ impl Node {
     }
     fn turn(&mut self) -> Turned {
         if let Some(place) = self.slots.iter().position(|slot| slot.head.is_none()) { return self.advance(place); }
-        let mut tops = self.floor;
+        let mut greatest_clocks = self.floor;
         for head in self.slots.iter().filter_map(|slot| slot.head.as_ref()) {
-            for (key, clock) in keys(head.stamps.present).zip(&head.stamps.clocks) { tops[key as usize] = tops[key as usize].max(*clock); }
+            for (key, clock) in keys(head.stamps.present).zip(&head.stamps.clocks) { greatest_clocks[key as usize] = greatest_clocks[key as usize].max(*clock); }
         }
-        let lags = |slot: &Slot| slot.head.as_ref().is_some_and(|head| keys(head.stamps.present).zip(&head.stamps.clocks).any(|(key, clock)| *clock < tops[key as usize]));
+        let lags = |slot: &Slot| slot.head.as_ref().is_some_and(|head| keys(head.stamps.present).zip(&head.stamps.clocks).any(|(key, clock)| *clock < greatest_clocks[key as usize]));
         if let Some(place) = self.slots.iter().position(lags) { return self.advance(place); }
         if self.due { self.compute(); return Turned::Computed; }
         match self.slots.iter().position(|slot| !slot.queue.is_empty()) { Some(place) => self.advance(place), None => Turned::Nothing }

@@ -8,10 +8,10 @@ use std::sync::Arc;
 
 const MOST_BYTES: usize = 1_048_576;
 const MOST_LINE_BYTES: usize = 4096;
-const MOST_SERVICES: usize = 64;
-const MOST_DEPENDENCIES: usize = 16;
-const MOST_CHANGES: usize = 1024;
-const MOST_LEGS: usize = 1000;
+const MAX_SERVICES: usize = 64;
+const MAX_DEPENDENCIES: usize = 16;
+const MAX_CHANGES: usize = 1024;
+const MAX_LEGS: usize = 1000;
 
 #[derive(Clone, Debug)]
 pub struct Formula {
@@ -138,7 +138,7 @@ impl Book {
         let types: Vec<Type> = names.iter().map(|id| self.service(*id).ty).collect();
         ensure(text.tree.type_of(&types) == Some(ty), 10)?;
         ensure(!text.tree.wants_ints() || members.iter().all(|id| self.service(*id).ty == Type::Int), 10)?;
-        ensure(all.len() <= MOST_DEPENDENCIES, 11)?;
+        ensure(all.len() <= MAX_DEPENDENCIES, 11)?;
         let count = all.len();
         all.sort_unstable();
         all.dedup();
@@ -181,7 +181,7 @@ impl Book {
                 let formula = self.derived(id)?;
                 ensure(self.service(member).rank < self.service(id).rank, 9)?;
                 ensure(self.service(member).ty == Type::Int || !formula.tree.wants_ints(), 10)?;
-                ensure(formula.has(member) || formula.dependencies().count() < MOST_DEPENDENCIES, 11)?;
+                ensure(formula.has(member) || formula.dependencies().count() < MAX_DEPENDENCIES, 11)?;
                 ensure(!formula.has(member), 15)?;
                 Ok((id, Change::Add(member), None))
             }
@@ -196,7 +196,7 @@ impl Book {
 
     fn may_declare(&self, name: &str) -> Result<(), Code> {
         ensure(self.find(name).is_err(), 5)?;
-        ensure(self.services.len() < MOST_SERVICES, 6)
+        ensure(self.services.len() < MAX_SERVICES, 6)
     }
 
     fn birth(&self, service: Service, definition: Definition) -> (u16, Change, Option<Service>) {
@@ -243,7 +243,7 @@ impl Reading {
         match read_line(from_utf8(bytes).map_err(|_| 3)?).ok_or(4)? {
             Line::Blank => return Ok(()),
             Line::Settle => {
-                ensure(self.legs.len() <= MOST_LEGS, 19)?;
+                ensure(self.legs.len() <= MAX_LEGS, 19)?;
                 self.legs.push(Leg::default());
                 self.open = false;
                 return Ok(());
@@ -251,13 +251,13 @@ impl Reading {
             line @ (Line::Do(..) | Line::Take(..) | Line::Turn(..)) => {
                 let step = self.book.step(line)?;
                 ensure(self.steps, 18)?;
-                ensure(self.legs.len() <= MOST_LEGS, 19)?;
+                ensure(self.legs.len() <= MAX_LEGS, 19)?;
                 self.leg().steps.push((number, step));
             }
             line => {
                 let (id, change, declared) = self.book.change(line)?;
-                ensure(self.leg().changes.len() < MOST_CHANGES, 17)?;
-                ensure(self.legs.len() <= MOST_LEGS, 19)?;
+                ensure(self.leg().changes.len() < MAX_CHANGES, 17)?;
+                ensure(self.legs.len() <= MAX_LEGS, 19)?;
                 self.push_change(id, change, declared);
             }
         }

@@ -1,6 +1,6 @@
 // The values of small books at clocks of the past.
 ghost use Rattle.std.specs.Prelude.{◌≡◌, ◌<◌, true, IfOk, length};
-ghost use Rattle.propagation.specs.Words.{Apart};
+ghost use Rattle.propagation.specs.Lists.{AreDistinct};
 ghost use Rattle.svc_graph.specs.Accepting.{IsWritten};
 ghost use Rattle.svc_graph.specs.History.{history_of};
 
@@ -22,7 +22,7 @@ fn formula(
     fixed: &[ServiceId],
     members: &[ServiceId],
 ) -> Result<Formula, Fail>
-    requires { Apart fixed.now }
+    requires { AreDistinct fixed.now }
     ensures { IfOk result IsWritten }
 {
     let expr = read_expr(alloc, text)?.expr;

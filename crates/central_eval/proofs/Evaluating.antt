@@ -5,8 +5,8 @@ use Rattle.std.proofs.lemmas.List.{get_or-append-add, get_or_append_left, get_or
 use Rattle.std.proofs.lemmas.List.{get_or-set_same, get_or-set_other}
 use Rattle.std.proofs.lemmas.List.Sorted.{Contains-permutation}
 use Rattle.propagation.proofs.Central.{central_cons, has_deps}
-use Rattle.propagation.specs.Words.{Has}
-use Rattle.propagation.specs.History.{Central, CentralAt, definition, deps, now}
+use Rattle.propagation.specs.Lists.{Has}
+use Rattle.propagation.specs.History.{Central, CentralAt, definition_at, deps, now}
 use Rattle.std.proofs.lemmas.Option.{slice_get-get_or}
 use Rattle.svc_graph.proofs.Ordered.{Contains-services, services_within}
 use Rattle.svc_graph.proofs.Lists.{get_or-Has}
@@ -32,12 +32,12 @@ All-left P xs ys h k d within = subst P (get_or_append_left xs ys d k within) (h
 
 -- at these clocks every dependency has a definition
 pub record AreWhole (rows : List Row) (S : ℕ → ℕ) : Type 0 where
-  pub defined : (n p : ℕ) → Has (deps (theory rows) n (S n)) p → is_some (definition (theory rows) p (S p)) ≡ true
+  pub defined : (n p : ℕ) → Has (deps (theory rows) n (S n)) p → is_some (definition_at (theory rows) p (S p)) ≡ true
 
 -- the services of the list up to k that have a definition at these clocks have their central values
 abbrev pub AreDone : List Row → (ℕ → ℕ) → List ℕ → ℕ → List Value → Type 0
 AreDone rows S ids k values =
-    (j : ℕ) → j < k → is_some (definition (theory rows) (get_or ids j 0) (S (get_or ids j 0))) ≡ true → CentralAt (theory rows) S (get_or ids j 0) (value_at values (get_or ids j 0))
+    (j : ℕ) → j < k → is_some (definition_at (theory rows) (get_or ids j 0) (S (get_or ids j 0))) ≡ true → CentralAt (theory rows) S (get_or ids j 0) (value_at values (get_or ids j 0))
 
 -- the values of services each of which is central
 central-all : (rows : List Row) (S : ℕ → ℕ) (values : List Value) (ps : List ℕ) → ((p : ℕ) → Has ps p → CentralAt (theory rows) S p (value_at values p)) →
@@ -74,7 +74,7 @@ earlier_or_here j k below = elim (cases_lt j k) [ inl less ↦ inl less | inr mo
 
 -- the next service of the list, with the meaning of its definition over the values so far
 pub Progress-more : (rows : List Row) (S : ℕ → ℕ) (ids : List ℕ) (k : ℕ) (values : List Value) (d : Definition) → IsBook rows → AreWhole rows S →
-    k < length ids → definition (theory rows) (get_or ids k 0) (S (get_or ids k 0)) ≡ Some d → Progress rows S ids k values →
+    k < length ids → definition_at (theory rows) (get_or ids k 0) (S (get_or ids k 0)) ≡ Some d → Progress rows S ids k values →
     Progress rows S ids (k + 1) (set values (get_or ids k 0) (value_by d values))
 Progress-more rows S ids k values d book whole within defined progress =
     record { all = progress.all; order = progress.order; count = length-set values id value ∙ progress.count; done = more }
@@ -93,7 +93,7 @@ Progress-more rows S ids k values d book whole within defined progress =
         let found = before rows ids progress.all progress.order k p within (under.declared p has) (under.falls p has) in
         let there = whole.defined id p (has_deps (theory rows) id (S id) p d defined has) in
         subst (λ q. CentralAt (theory rows) S q (value_at values q)) found.2
-        (progress.done found.0 found.1 (subst (λ q. is_some (definition (theory rows) q (S q)) ≡ true) (sym found.2) there))
+        (progress.done found.0 found.1 (subst (λ q. is_some (definition_at (theory rows) q (S q)) ≡ true) (sym found.2) there))
 
     itself : CentralAt (theory rows) S id value
     itself = Central.more defined (central-all rows S values (dependencies d) each) refl Central.none
@@ -115,24 +115,24 @@ Progress-more rows S ids k values d book whole within defined progress =
         ]
 
 -- the next service of the list, where it has no definition
-pub Progress-past : (rows : List Row) (S : ℕ → ℕ) (ids : List ℕ) (k : ℕ) (values : List Value) → definition (theory rows) (get_or ids k 0) (S (get_or ids k 0)) ≡ None → Progress rows S ids k values → Progress rows S ids (k + 1) values
+pub Progress-past : (rows : List Row) (S : ℕ → ℕ) (ids : List ℕ) (k : ℕ) (values : List Value) → definition_at (theory rows) (get_or ids k 0) (S (get_or ids k 0)) ≡ None → Progress rows S ids k values → Progress rows S ids (k + 1) values
 Progress-past rows S ids k values undefined progress = record { all = progress.all; order = progress.order; count = progress.count; done = more }
   where
     more : AreDone rows S ids (k + 1) values
     more j below there =
         elim (earlier_or_here j k below) [
           | inl earlier ↦ progress.done j earlier there
-          | inr last ↦ absurd (true≢false (sym there ∙ ap is_some (ap (λ i. definition (theory rows) (get_or ids i 0) (S (get_or ids i 0))) last ∙ undefined)))
+          | inr last ↦ absurd (true≢false (sym there ∙ ap is_some (ap (λ i. definition_at (theory rows) (get_or ids i 0) (S (get_or ids i 0))) last ∙ undefined)))
         ]
 
 -- once the list is done, a service that has a definition has its central value
-pub central-done : (rows : List Row) (S : ℕ → ℕ) (ids : List ℕ) (k n : ℕ) (values : List Value) → length ids ≤ k → n < length rows → is_some (definition (theory rows) n (S n)) ≡ true → Progress rows S ids k values →
+pub central-done : (rows : List Row) (S : ℕ → ℕ) (ids : List ℕ) (k n : ℕ) (values : List Value) → length ids ≤ k → n < length rows → is_some (definition_at (theory rows) n (S n)) ≡ true → Progress rows S ids k values →
     CentralAt (theory rows) S n (value_at values n)
 central-done rows S ids k n values past declared there progress =
     let found = Contains-permutation (services rows) ids n progress.all (Contains-services rows n declared) in
     let at : get_or ids found.0 0 ≡ n = get_or_default ids found.0 0 n found.1 ∙ found.2 in
     subst (λ p. CentralAt (theory rows) S p (value_at values p)) at
-    (progress.done found.0 (omega (arith, found.1)) (subst (λ p. is_some (definition (theory rows) p (S p)) ≡ true) (sym at) there))
+    (progress.done found.0 (omega (arith, found.1)) (subst (λ p. is_some (definition_at (theory rows) p (S p)) ≡ true) (sym at) there))
 
 -- values in a row, each of which is central
 central-row : (rows : List Row) (S : ℕ → ℕ) (n : ℕ) (more : List Row) (values : List Value) → length values ≡ length more →
@@ -153,7 +153,7 @@ present-born (d ∷ ds) born =
     let within : length (d ∷ ds) - 1 < length (d ∷ ds) = omega arith in
     ap is_some (slice_get-get_or (d ∷ ds) (length (d ∷ ds) - 1) d within)
 
-born-definition : (rows : List Row) → AreBorn rows → (n : ℕ) → n < length rows → is_some (definition (theory rows) n (now (theory rows) n)) ≡ true
+born-definition : (rows : List Row) → AreBorn rows → (n : ℕ) → n < length rows → is_some (definition_at (theory rows) n (now (theory rows) n)) ≡ true
 born-definition rows born n declared = ap is_some (definition-now rows n) ∙ present-born (history_of rows n) (born n declared)
 
 -- where every service is born, the present clocks are whole
@@ -177,13 +177,13 @@ is_some-option_map f None = refl
 is_some-option_map f (Some x) = refl
 
 -- a definition that is lent from a service's history is its definition at that clock
-pub definition-lent : (rows : List Row) (n c : ℕ) (history : List Definition) (found : Option DefinitionRef) → history ≡ history_of rows n → option_map definition_lent found ≡ at_clock history c → definition (theory rows) n c ≡ option_map definition_lent found
+pub definition-lent : (rows : List Row) (n c : ℕ) (history : List Definition) (found : Option DefinitionRef) → history ≡ history_of rows n → option_map definition_lent found ≡ at_clock history c → definition_at (theory rows) n c ≡ option_map definition_lent found
 definition-lent rows n c history found same at = definition-at_clock rows n c ∙ ap (λ all. at_clock all c) (sym same) ∙ sym at
 
 -- the dependencies of a definition are at most 16 declared services
-pub few-dependencies : (rows : List Row) (n c : ℕ) (d : Definition) → IsBook rows → definition (theory rows) n c ≡ Some d → length (dependencies d) ≤ 16
+pub few-dependencies : (rows : List Row) (n c : ℕ) (d : Definition) → IsBook rows → definition_at (theory rows) n c ≡ Some d → length (dependencies d) ≤ 16
 few-dependencies rows n c d book defined = (AreBelow-definition rows book n c d defined).few
 
-pub dependencies-declared : (rows : List Row) (n c : ℕ) (d : Definition) → IsBook rows → definition (theory rows) n c ≡ Some d → All (λ p. p < length rows) (dependencies d)
+pub dependencies-declared : (rows : List Row) (n c : ℕ) (d : Definition) → IsBook rows → definition_at (theory rows) n c ≡ Some d → All (λ p. p < length rows) (dependencies d)
 dependencies-declared rows n c d book defined k x within =
     (AreBelow-definition rows book n c d defined).declared (get_or (dependencies d) k x) (get_or-Has (dependencies d) k x within)

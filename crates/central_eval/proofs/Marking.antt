@@ -5,9 +5,9 @@ use Rattle.std.proofs.lemmas.Bool.{cases_Bool, cases_lt, cond-false, cond-true, 
 use Rattle.std.proofs.lemmas.List.{get_or_past}
 use Rattle.propagation.proofs.Edges.{Has-is_among, is_among-Has}
 use Rattle.propagation.proofs.Keys.{has-keys, rising-pos}
-use Rattle.propagation.specs.History.{Reach, definition, deps, now}
+use Rattle.propagation.specs.History.{Reach, definition_at, deps, now}
 use Rattle.propagation.specs.Stamps.{Stamps, clock_of, keys}
-use Rattle.propagation.specs.Words.{Has, is_among}
+use Rattle.propagation.specs.Lists.{Has, is_among}
 use Rattle.stamp_clock.specs.Beside.{AreStamps}
 use Rattle.svc_graph.proofs.Theory.{AreBelow-deps}
 use Rattle.svc_graph.specs.Book.{IsBook}
@@ -172,7 +172,7 @@ AreInTime-below rows stamps start none below q =
 -- ---- definitions at clocks within their histories
 
 -- at a clock within its history a service has a definition
-defined-at : (rows : List Row) (n c : ℕ) → 0 < c → c ≤ now (theory rows) n → is_some (definition (theory rows) n c) ≡ true
+defined-at : (rows : List Row) (n c : ℕ) → 0 < c → c ≤ now (theory rows) n → is_some (definition_at (theory rows) n c) ≡ true
 defined-at rows n zero key time = absurd (omega arith)
 defined-at rows n (suc c) key time = is_some-slice_get (history_of rows n) c (omega (arith, time))
   where
@@ -183,7 +183,7 @@ defined-at rows n (suc c) key time = is_some-slice_get (history_of rows n) c (om
 
 -- so each service that is reached has one where the keys are what is reached
 pub definition-reached : (rows : List Row) (id : ℕ) (stamps : Stamps) → AreInTime rows stamps → AreReached rows id stamps → (q : ℕ) → Reach (theory rows) (clock_of stamps) id q →
-    is_some (definition (theory rows) q (clock_of stamps q)) ≡ true
+    is_some (definition_at (theory rows) q (clock_of stamps q)) ≡ true
 definition-reached rows id stamps time reached q reach = defined-at rows q (clock_of stamps q) (reached.no_less q reach) (time q)
 
 pub AreWhole-reached : (rows : List Row) (id : ℕ) (stamps : Stamps) → AreInTime rows stamps → AreReached rows id stamps → AreWhole rows (clock_of stamps)

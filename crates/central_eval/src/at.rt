@@ -36,7 +36,7 @@ fn value_in(
 
 /// The value of the service `id` at the clocks that the stamps name: the meaning of its definition at its clock over the
 /// values of its dependencies at theirs. `None` exactly where the keys are not what the service rests on by the definitions
-/// at these clocks, or a clock is past its service's. `OutOfMemory` for want of memory alone.
+/// at these clocks, or a clock is past its service's. `OutOfMemory` only when memory runs out.
 pub fn central_at(
     alloc: Global,
     book: &Book,

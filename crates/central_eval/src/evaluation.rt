@@ -78,7 +78,7 @@ pub(crate) fn put_value(
 }
 
 /// The values of all services of the book, by their numbers: each by its last definition over the values of its dependencies.
-/// Every service has a definition. `OutOfMemory` for want of memory alone.
+/// Every service has a definition. `OutOfMemory` only when memory runs out.
 pub fn central(alloc: Global, book: &Book) -> Result<Vec<Value>, OutOfMemory>
     requires { AreBorn book.now }
     ensures { IfOk result (λ values. AreCentral book.now values.items) }

@@ -2,7 +2,7 @@
 ghost use Rattle.std.specs.Prelude.{◌≡◌, ◌↔◌, ℕ, ◌<◌, ◌≤◌, ◌||◌, ◌==◌, IsTrue, true, false, length, slice_index_or, All};
 ghost use Rattle.propagation.specs.History.{deps};
 ghost use Rattle.propagation.specs.Stamps.{clock_of};
-ghost use Rattle.propagation.specs.Words.{is_among};
+ghost use Rattle.propagation.specs.Lists.{is_among};
 ghost use Rattle.stamp_clock.specs.Beside.{AreStamps};
 ghost use Rattle.svc_graph.specs.Book.{IsBook};
 ghost use Rattle.svc_graph.specs.History.{theory};
@@ -10,7 +10,7 @@ ghost use Rattle.central_eval.specs.At.{AreInTime, AreReached};
 
 use crate::evaluation::place;
 use stamp_clock::Stamps;
-use svc_graph::{Book, DefinitionRef, MOST_SERVICES};
+use svc_graph::{Book, DefinitionRef, MAX_SERVICES};
 use svc_value::{Clock, ServiceId};
 
 // The clock that the stamps give a service, 0 where it is no key.
@@ -39,12 +39,12 @@ pub(crate) fn are_in_time(book: &Book, stamps: &Stamps) -> bool
 }
 
 // The mark of one service.
-fn one_mark(id: ServiceId) -> [bool; MOST_SERVICES]
+fn one_mark(id: ServiceId) -> [bool; MAX_SERVICES]
     requires { id < 64 }
     ensures len { length result ≡ 64 }
     ensures mark { (q : ℕ) → slice_index_or result q false ≡ (q == id) }
 {
-    let mut marks = [false; MOST_SERVICES];
+    let mut marks = [false; MAX_SERVICES];
     marks[place(id)] = true;
     marks
 }

@@ -11,7 +11,7 @@ use Rattle.command_words.specs.declared.command.Command.{Command}
 use Rattle.command_words.specs.declared.command.Command.TheVariants.{Step, Check, Central, Frames, Make}
 use Rattle.command_words.specs.declared.size.Size.{Size}
 use Rattle.command_words.specs.Taken.{make_taken, number_in, taken_by}
-use Rattle.command_words.specs.Words.{command_of, is_size, making, number_behind, number_of, size_of}
+use Rattle.command_words.specs.Words.{command_of, is_size, making, number_behind, number_value, size_of}
 use Rattle.command_words.proofs.PlainWords.{IsPlain, digit_is_plain, no_hyphen, make_takes, make_services, make_changes, make_start}
 
 -- ---- numbers are no flags
@@ -27,7 +27,7 @@ second_given false o h = h
 plain_digit : (digit : ℕ) (rest : Text) → is_some (number_behind 0 (digit ∷ rest)) ≡ true → IsPlain (digit ∷ rest)
 plain_digit digit rest h = digit_is_plain digit rest (no_hyphen digit (both_given (is_ascii_digit digit) _ _ h))
 
-plain_number : (word : Text) → is_some (number_of word) ≡ true → IsPlain word
+plain_number : (word : Text) → is_some (number_value word) ≡ true → IsPlain word
 plain_number [] h = absurd (cc h)
 plain_number (digit ∷ []) h = plain_digit digit [] h
 plain_number (first ∷ second ∷ rest) h = plain_digit first (second ∷ rest) (second_given (first == 48) _ h)
@@ -60,18 +60,18 @@ module _ (first a b c : Text) where
 
   -- what the numbers stand for
   abbrev made : Option Command
-  made = making (size_of (number_of a) (number_of b) (number_of c))
+  made = making (size_of (number_value a) (number_value b) (number_value c))
 
   made_takes : (command : Command) → made ≡ Some command → takes (taken_by command) words ≡ true
   made_takes command e =
-      let h = numbers (number_of a) (number_of b) (number_of c) command e in
+      let h = numbers (number_value a) (number_value b) (number_value c) command e in
       subst (λ (k : Command). takes (taken_by k) words ≡ true) h.is
       (make_takes a b c (plain_number a h.services) (plain_number b h.changes) (plain_number c h.start) first)
 
   made_again : (command : Command) (m : ArgMatches) → made ≡ Some command → HasMatchesOf make_taken words m
       → making (size_of (number_in (first_value (found_of m) (codes "services"))) (number_in (first_value (found_of m) (codes "changes"))) (number_in (first_value (found_of m) (codes "start")))) ≡ made
   made_again command m e found =
-      let h = numbers (number_of a) (number_of b) (number_of c) command e in
+      let h = numbers (number_value a) (number_value b) (number_value c) command e in
       let pa = plain_number a h.services in
       let pb = plain_number b h.changes in
       let pc = plain_number c h.start in

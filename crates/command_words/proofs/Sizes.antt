@@ -5,7 +5,7 @@ use Rattle.std.specs.Cmp.Lexicographic.{pointwise}
 use Rattle.std.proofs.lemmas.Bool.{leb-true, and_parts}
 use Rattle.command_words.specs.declared.command.Command.TheVariants.{Step, Check, Central, Frames, Make}
 use Rattle.command_words.specs.declared.size.Size.{Size}
-use Rattle.command_words.specs.Words.{is_size, IsSize, size_of, making, number_of, command_of}
+use Rattle.command_words.specs.Words.{is_size, IsSize, size_of, making, number_value, command_of}
 
 within : (s c n : ℕ) → is_size s c n ≡ true → IsSize (record { services = s; changes = c; start = n })
 within s c n h =
@@ -49,8 +49,8 @@ size_made (first ∷ a ∷ []) size e = absurd (cc e)
 size_made (first ∷ a ∷ b ∷ []) size e = absurd (cc e)
 size_made (first ∷ a ∷ b ∷ c ∷ []) size e = go (pointwise nat_eq first (codes "make")) e
   where
-    go : (t : Bool) → (if t then making (size_of (number_of a) (number_of b) (number_of c)) else None) ≡ Some (Make size) → IsSize size
-    go true e = sizes (number_of a) (number_of b) (number_of c) size e
+    go : (t : Bool) → (if t then making (size_of (number_value a) (number_value b) (number_value c)) else None) ≡ Some (Make size) → IsSize size
+    go true e = sizes (number_value a) (number_value b) (number_value c) size e
     go false e = absurd (cc e)
 size_made (first ∷ a ∷ b ∷ c ∷ d ∷ rest) size e = absurd (cc e)
 

@@ -4,7 +4,7 @@ use Rattle.clap.specs.Words.{App, Rule, Text, new_app, new_rule, with_rule}
 use Rattle.clap.specs.declared.builder.ArgAction.TheVariants.{Set}
 use Rattle.command_words.specs.declared.command.Command.{Command}
 use Rattle.command_words.specs.declared.command.Command.TheVariants.{Step, Check, Central, Frames, Make}
-use Rattle.command_words.specs.Words.{number_of}
+use Rattle.command_words.specs.Words.{number_value}
 
 -- a command without arguments, and without a flag for help
 abbrev pub bare : Text → App
@@ -45,4 +45,4 @@ taken_by (Make size) = make_taken
 -- the number that a text is, if there is one
 abbrev pub number_in : Option Text → Option ℕ
 number_in None = None
-number_in (Some text) = number_of text
+number_in (Some text) = number_value text

@@ -15,10 +15,10 @@ number_behind so_far (digit ∷ digits) =
     if is_ascii_digit digit && nat_le (so_far * 10 + (digit - 48)) 65536 then number_behind (so_far * 10 + (digit - 48)) digits else None
 
 -- the number that a word is, in digits alone and without a leading zero; 0 itself is one
-abbrev pub number_of : List ℕ → Option ℕ
-number_of [] = None
-number_of (digit ∷ []) = number_behind 0 (digit ∷ [])
-number_of (first ∷ second ∷ digits) = if first == 48 then None else number_behind 0 (first ∷ second ∷ digits)
+abbrev pub number_value : List ℕ → Option ℕ
+number_value [] = None
+number_value (digit ∷ []) = number_behind 0 (digit ∷ [])
+number_value (first ∷ second ∷ digits) = if first == 48 then None else number_behind 0 (first ∷ second ∷ digits)
 
 -- ---- sizes
 
@@ -60,7 +60,7 @@ making (Some size) = Some (Make size)
 abbrev pub command_of : List (List ℕ) → Option Command
 command_of (first ∷ []) = command_named first
 command_of (first ∷ services ∷ changes ∷ start ∷ []) =
-    if pointwise nat_eq first (codes "make") then making (size_of (number_of services) (number_of changes) (number_of start)) else None
+    if pointwise nat_eq first (codes "make") then making (size_of (number_value services) (number_value changes) (number_value start)) else None
 command_of words = None
 
 -- the line that all other words are answered with

@@ -2,7 +2,7 @@
 ghost use Rattle.std.specs.Prelude.{◌≡◌, Some};
 ghost use Rattle.command_words.specs.Words.{size_of};
 
-use crate::numbers::MOST;
+use crate::numbers::MAX_NUMBER;
 
 /// How large a document is to be made.
 #[derive(Clone, Copy, Debug, PartialEq, Eq)]
@@ -33,7 +33,7 @@ pub(crate) fn size_of(
 fn sized(services: u32, changes: u32, start: u32) -> Option<Size>
     ensures { result ≡ size_of (Some services) (Some changes) (Some start) }
 {
-    if services < 2 || services > 64 || changes < services || changes > 1024 || start > MOST {
+    if services < 2 || services > 64 || changes < services || changes > 1024 || start > MAX_NUMBER {
         return None;
     }
     Some(Size {

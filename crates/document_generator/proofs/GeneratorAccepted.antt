@@ -3,7 +3,7 @@ use Rattle.std.proofs.Common.{◌≡◌, ℕ, zero, suc, ◌+◌, ◌-◌, ◌*�
 use Rattle.std.specs.Prelude.{◌==◌, ◌||◌, nat_lt, codes, pos, if◌then◌else◌}
 use Rattle.std.proofs.lemmas.Bool.{cond-true, cond-false, lt-ltb}
 use Rattle.std.proofs.lemmas.Bool.Decides.{nat_tests}
-use Rattle.propagation.specs.Words.{is_among}
+use Rattle.propagation.specs.Lists.{is_among}
 use Rattle.svc_value.specs.declared.value.Value.TheVariants as value
 use Rattle.svc_value.specs.declared.value.ValueType.TheVariants as type
 use Rattle.svc_graph.specs.Refusals.{repeats}
@@ -17,7 +17,7 @@ use Rattle.document_reading.specs.Document.{lines_of, Reads, ends, IsAccepted}
 use Rattle.document_reading.specs.Grammar.{Says}
 use Rattle.document_reading.specs.Refusals.{holds}
 use Rattle.document_reading.specs.State.{State, start, next}
-use Rattle.document_generator.specs.Generator.{Draft, drawn, inputs_of, members_at, input_name, derived_name, service_name, input_line, set_line, add_line, drop_line, derived_line, with_input, with_derived, with_set, with_turn, with_change, after_inputs, after_derived, after_changes, generated}
+use Rattle.document_generator.specs.Generator.{Draft, next_draw, inputs_of, members_at, input_name, derived_name, service_name, input_line, set_line, add_line, drop_line, derived_line, with_input, with_derived, with_set, with_turn, with_change, after_inputs, after_derived, after_changes, generated}
 use Rattle.document_generator.proofs.GeneratorDeclared.{sum_named, input_holds, derived_holds}
 use Rattle.document_generator.proofs.GeneratorLemmas.{derived_count, changes_count}
 use Rattle.document_generator.proofs.GeneratorLines.{member_sum, pair_of, input_said, set_said, add_said, drop_said, derived_said, settle_said}
@@ -92,19 +92,19 @@ turn_written {inputs} {n} {c} {draft} w few room d q x some h low within =
     (subst (λ (name : List ℕ). Says (add_line inputs (d + 1) q) (Add name (service_name inputs q))) (sym (derived_is inputs d)) (add_said inputs (d + 1) q (omega arith) (omega arith)))
     (add_holds w.stands few room d q h low new less)
     (add_stands w.stands few room d q h low within))
-    (λ full. set_written w few room 0 (drawn x) some (omega arith)))
+    (λ full. set_written w few room 0 (next_draw x) some (omega arith)))
 
 change_written : {inputs n c : ℕ} {draft : Draft} → Written inputs n c draft → n ≤ 64 → c < 1024 → 0 < inputs → inputs < n → length draft.members ≡ n - inputs
     → Written inputs n (c + 1) (with_change inputs n draft)
 change_written {inputs} {n} {c} {draft} w few room some more count =
-    let x = drawn draft.x in
-    let d = drawn x % (n - inputs) in
+    let x = next_draw draft.x in
+    let d = next_draw x % (n - inputs) in
     let below : d < n - inputs = omega arith in
-    choose (Written inputs n (c + 1)) (nat_lt (drawn draft.x % 4) 3) _ _
-    (λ t. let k : drawn x % inputs < inputs = omega arith in set_written w few room (drawn x % inputs) (drawn (drawn x)) k (omega arith))
+    choose (Written inputs n (c + 1)) (nat_lt (next_draw draft.x % 4) 3) _ _
+    (λ t. let k : next_draw x % inputs < inputs = omega arith in set_written w few room (next_draw x % inputs) (next_draw (next_draw x)) k (omega arith))
     (λ t.
-    let q : drawn (drawn x) % (inputs + d) < inputs + d = omega arith in
-    turn_written w few room d (drawn (drawn x) % (inputs + d)) (drawn (drawn x)) some (omega arith) q (omega arith))
+    let q : next_draw (next_draw x) % (inputs + d) < inputs + d = omega arith in
+    turn_written w few room d (next_draw (next_draw x) % (inputs + d)) (next_draw (next_draw x)) some (omega arith) q (omega arith))
 
 -- ---- declarations
 
@@ -119,10 +119,10 @@ inputs_written x inputs zero h few = record {
 inputs_written x inputs (suc k) h few =
     let draft = after_inputs x k in
     let w = inputs_written x inputs k (omega arith) few in
-    let v = drawn draft.x % 1000 in
+    let v = next_draw draft.x % 1000 in
     let e : k + 1 ≡ suc k = omega arith in
     subst (λ (m : ℕ). Written inputs m m (with_input m draft)) e
-    (written_more (drawn draft.x) (input_line (k + 1) v) draft.members (Input (service_name inputs k) type.Int (value.Int (pos v))) w (input_plain (k + 1) v (omega arith) (omega arith))
+    (written_more (next_draw draft.x) (input_line (k + 1) v) draft.members (Input (service_name inputs k) type.Int (value.Int (pos v))) w (input_plain (k + 1) v (omega arith) (omega arith))
     (subst (λ (name : List ℕ). Says (input_line (k + 1) v) (Input name type.Int (value.Int (pos v)))) (sym (input_is inputs k (omega arith))) (input_said (k + 1) v (omega arith) (omega arith)))
     (input_holds w.stands (omega arith) (omega arith) (pos v))
     (input_stands w.stands (omega arith) (pos v)))
@@ -158,8 +158,8 @@ derived_written x inputs zero some few low =
 derived_written x inputs (suc d) some few low =
     let draft = after_derived x inputs d in
     let w = derived_written x inputs d some (omega arith) low in
-    let p = drawn draft.x % (inputs + d) in
-    let q = drawn (drawn draft.x) % (inputs + d) in
+    let p = next_draw draft.x % (inputs + d) in
+    let q = next_draw (next_draw draft.x) % (inputs + d) in
     let hp : p < inputs + d = omega arith in
     let hq : q < inputs + d = omega arith in
     let pair = pair_is (inputs + d) p q hp hq in
@@ -167,7 +167,7 @@ derived_written x inputs (suc d) some few low =
     let b : inputs + d + 1 ≡ inputs + suc d = omega arith in
     subst (λ (m : ℕ). Written inputs m (inputs + suc d) (with_derived inputs d draft)) a
     (subst (λ (c : ℕ). Written inputs (inputs + (d + 1)) c (with_derived inputs d draft)) b
-    (written_more (drawn (drawn draft.x)) (derived_line inputs (d + 1) p q) (draft.members ++ pair_of p q ∷ []) (sum_named inputs d (pair_of p q)) w
+    (written_more (next_draw (next_draw draft.x)) (derived_line inputs (d + 1) p q) (draft.members ++ pair_of p q ∷ []) (sum_named inputs d (pair_of p q)) w
     (derived_plain inputs (d + 1) p q (omega arith) (omega arith) (omega arith))
     (subst (λ (name : List ℕ). Says (derived_line inputs (d + 1) p q) (Derived name type.Int (d + 1) (Formula (record { expr = member_sum; names = []; members = map (service_name inputs) (pair_of p q) }))))
     (sym (derived_is inputs d)) (derived_said inputs (d + 1) p q (omega arith) (omega arith) (omega arith)))

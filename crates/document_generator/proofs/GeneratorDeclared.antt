@@ -15,7 +15,7 @@ use Rattle.svc_graph.specs.declared.definition.Change.{Change}
 use Rattle.svc_graph.specs.declared.definition.Change.TheVariants as change
 use Rattle.svc_graph.specs.declared.definition.Definition.{Definition}
 use Rattle.svc_graph.specs.declared.kind.Kind.{Kind}
-use Rattle.svc_graph.specs.History.{Row, row_at, history_of, present, roster_of, place_of, kind_of, declared_row}
+use Rattle.svc_graph.specs.History.{Row, row_at, history_of, present, roster_of, find_service, kind_of, declared_row}
 use Rattle.svc_graph.specs.Refusals.{kind_at, is_high, is_text, is_type, repeats, has_wrong_type, has_too_many, names_high, brings_again}
 use Rattle.svc_graph.proofs.Changed.{kind_at-roster}
 use Rattle.svc_expr.specs.Tree.{tree_of}
@@ -27,7 +27,7 @@ use Rattle.document_reading.specs.declared.statement.Body.TheVariants.{Formula}
 use Rattle.document_reading.specs.declared.statement.Statement.{Statement}
 use Rattle.document_reading.specs.declared.statement.Statement.TheVariants.{Input, Derived}
 use Rattle.document_reading.specs.Refusals.{holds, is_unknown}
-use Rattle.document_reading.specs.State.{State, number_of}
+use Rattle.document_reading.specs.State.{State, service_named}
 use Rattle.document_generator.specs.Generator.{service_name}
 use Rattle.document_generator.proofs.GeneratorLines.{member_sum, sum_tree}
 use Rattle.document_generator.proofs.GeneratorNames.{place_none}
@@ -58,10 +58,10 @@ others_low : (most q : ℕ) (qs : List ℕ) → All (λ p. p < most) (q ∷ qs) 
 others_low most q qs h k e g = h (suc k) e (omega arith)
 
 module _ {inputs n c : ℕ} {members : List (List ℕ)} {state : State} (s : Stands inputs n c members state) (few : n < 64) (room : c < 1024) where
-  is_new : place_of state.rows (service_name inputs n) ≡ None
+  is_new : find_service state.rows (service_name inputs n) ≡ None
   is_new = place_none inputs state.rows n (rows_named s (omega arith) room) (omega (arith, s.count)) (omega arith)
 
-  new_name : (is_some (place_of state.rows (service_name inputs n)) || false) ≡ false
+  new_name : (is_some (find_service state.rows (service_name inputs n)) || false) ≡ false
   new_name = ap (λ (o : Option ℕ). is_some o || false) is_new
 
   room_for_one : nat_le 64 (length state.rows) ≡ false
@@ -87,7 +87,7 @@ sum_named inputs d ps =
 
 module _ {inputs c : ℕ} {members : List (List ℕ)} {state : State} (d : ℕ) (s : Stands inputs (inputs + d) c members state) (few : inputs + d < 64) (room : c < 1024)
     (ps : List ℕ) (low : All (λ p. p < inputs + d) ps) where
-  pub numbers_are : (qs : List ℕ) → All (λ p. p < inputs + d) qs → map (number_of state.rows) (map (service_name inputs) qs) ≡ qs
+  pub numbers_are : (qs : List ℕ) → All (λ p. p < inputs + d) qs → map (service_named state.rows) (map (service_name inputs) qs) ≡ qs
   numbers_are [] h = refl
   numbers_are (q ∷ qs) h = λ i. number s (omega arith) room q (first_low (inputs + d) q qs h) i ∷ numbers_are qs (others_low (inputs + d) q qs h) i
 
@@ -123,7 +123,7 @@ module _ {inputs c : ℕ} {members : List (List ℕ)} {state : State} (d : ℕ) 
   of_birth : (test : List Kind → ℕ → Option Definition → Change → Bool)
       → test kinds (length state.rows) (present (history_of (state.rows ++ row ∷ []) (length state.rows))) (change.Birth (sum_of_these ps)) ≡ false
       → (test kinds (length state.rows) (present (history_of (state.rows ++ row ∷ []) (length state.rows)))
-      (change.Birth (sum_of_these (map (number_of state.rows) (map (service_name inputs) ps)))) || false) ≡ false
+      (change.Birth (sum_of_these (map (service_named state.rows) (map (service_name inputs) ps)))) || false) ≡ false
   of_birth test g =
       (λ i. test kinds (length state.rows) (present (history_of (state.rows ++ row ∷ []) (length state.rows))) (change.Birth (sum_of_these (numbers_are ps low i))) || false)
       ∙ ap (λ (b : Bool). b || false) g

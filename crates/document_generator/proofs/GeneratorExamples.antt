@@ -1,12 +1,12 @@
 -- The definitions at the document with 3 services, 5 changes and the start 1.
 use Rattle.std.proofs.Common.{◌≡◌, ℕ, zero, suc, List, [], ◌∷◌, ◌++◌, refl, codes}
 use Rattle.std.specs.Fmt.{digits}
-use Rattle.document_generator.specs.Generator.{drawn, number_text, generated}
+use Rattle.document_generator.specs.Generator.{next_draw, number_text, generated}
 
 -- x after each of the first draws
 abbrev draws : ℕ → ℕ → List ℕ
 draws x zero = []
-draws x (suc n) = drawn x ∷ draws (drawn x) n
+draws x (suc n) = next_draw x ∷ draws (next_draw x) n
 
 first_draws : draws 1 11 ≡ 149 ∷ 11249 ∷ 57305 ∷ 38044 ∷ 35283 ∷ 24819 ∷ 26463 ∷ 18689 ∷ 25472 ∷ 9901 ∷ 21742 ∷ []
 first_draws = refl

@@ -4,8 +4,8 @@ use Rattle.std.proofs.Math.ListN.{length-set}
 use Rattle.std.proofs.lemmas.Bool.{cond-true, cond-false}
 use Rattle.std.proofs.lemmas.Bool.Decides.{nat_tests}
 use Rattle.std.proofs.lemmas.List.{length-append}
-use Rattle.propagation.specs.Words.{is_among}
-use Rattle.document_generator.specs.Generator.{Draft, drawn, inputs_of, members_at, with_input, with_derived, with_turn, with_new_value, with_new_members, with_change, after_inputs, after_derived, after_changes}
+use Rattle.propagation.specs.Lists.{is_among}
+use Rattle.document_generator.specs.Generator.{Draft, next_draw, inputs_of, members_at, with_input, with_derived, with_turn, with_new_value, with_new_members, with_change, after_inputs, after_derived, after_changes}
 
 -- ---- one part more
 
@@ -24,18 +24,18 @@ after_changes_more start services c =
 
 -- ---- a change, where the first draw is made
 
-pub changes_value : (inputs services value : ℕ) (draft middle : Draft) → middle ≡ record draft { x = drawn draft.x } → value ≡ drawn draft.x % 4
+pub changes_value : (inputs services value : ℕ) (draft middle : Draft) → middle ≡ record draft { x = next_draw draft.x } → value ≡ next_draw draft.x % 4
     → value < 3 → with_new_value inputs middle.x middle ≡ with_change inputs services draft
 changes_value inputs services value draft middle m v t =
     ap (λ d. with_new_value inputs d.x d) m
-    ∙ sym (cond-true (nat_lt (drawn draft.x % 4) 3) (with_new_value inputs (drawn draft.x) draft) (with_new_members inputs services (drawn draft.x) draft)
+    ∙ sym (cond-true (nat_lt (next_draw draft.x % 4) 3) (with_new_value inputs (next_draw draft.x) draft) (with_new_members inputs services (next_draw draft.x) draft)
     (grind (arith, nat_tests)))
 
-pub changes_members : (inputs services value : ℕ) (draft middle : Draft) → middle ≡ record draft { x = drawn draft.x } → value ≡ drawn draft.x % 4
+pub changes_members : (inputs services value : ℕ) (draft middle : Draft) → middle ≡ record draft { x = next_draw draft.x } → value ≡ next_draw draft.x % 4
     → 3 ≤ value → with_new_members inputs services middle.x middle ≡ with_change inputs services draft
 changes_members inputs services value draft middle m v t =
     ap (λ d. with_new_members inputs services d.x d) m
-    ∙ sym (cond-false (nat_lt (drawn draft.x % 4) 3) (with_new_value inputs (drawn draft.x) draft) (with_new_members inputs services (drawn draft.x) draft)
+    ∙ sym (cond-false (nat_lt (next_draw draft.x % 4) 3) (with_new_value inputs (next_draw draft.x) draft) (with_new_members inputs services (next_draw draft.x) draft)
     (grind (arith, nat_tests)))
 
 -- ---- derived services
@@ -61,7 +61,7 @@ turn_count inputs n q x draft =
 
 pub change_count : (inputs services : ℕ) (draft : Draft) → length (with_change inputs services draft).members ≡ length draft.members
 change_count inputs services draft =
-    of_either (λ d. length d.members ≡ length draft.members) (nat_lt (drawn draft.x % 4) 3) _ _ refl (turn_count _ _ _ _ draft)
+    of_either (λ d. length d.members ≡ length draft.members) (nat_lt (next_draw draft.x % 4) 3) _ _ refl (turn_count _ _ _ _ draft)
 
 pub changes_count : (start services c : ℕ) → length (after_changes start services c).members ≡ services - inputs_of services
 changes_count start services zero = derived_count start (inputs_of services) (services - inputs_of services)

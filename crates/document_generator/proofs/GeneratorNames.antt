@@ -10,7 +10,7 @@ use Rattle.std.proofs.lemmas.List.{length-map}
 use Rattle.std.proofs.lemmas.Slice.Eq.{bytes_eq-Decides}
 use Rattle.std.proofs.Math.ListN.{get_or-map}
 use Rattle.svc_value.specs.declared.value.ValueType.TheVariants.{Int}
-use Rattle.svc_graph.specs.History.{Row, row_at, declared_row, names_in, place_of}
+use Rattle.svc_graph.specs.History.{Row, row_at, declared_row, names_in, find_service}
 use Rattle.document_generator.specs.Generator.{number_text, input_name, derived_name, service_name}
 
 -- ---- names differ
@@ -80,7 +80,7 @@ other_name inputs i k name hi hk apart h =
       | inr f ↦ f
     ]
 
-pub place_is : (inputs : ℕ) (rows : List Row) (k : ℕ) → AreNamed inputs rows → length rows ≤ 64 → k < length rows → place_of rows (service_name inputs k) ≡ Some k
+pub place_is : (inputs : ℕ) (rows : List Row) (k : ℕ) → AreNamed inputs rows → length rows ≤ 64 → k < length rows → find_service rows (service_name inputs k) ≡ Some k
 place_is inputs rows k named few h =
     let count : length (names_in rows) ≡ length rows = length-map rows (λ (row : Row). row.name) in
     let at : position_or_len (bytes_eq (service_name inputs k)) (names_in rows) ≡ k =
@@ -89,7 +89,7 @@ place_is inputs rows k named few h =
     ap (λ (n : ℕ). cond (nat_lt n (length (names_in rows))) (Some n) None) at
     ∙ ap (λ (b : Bool). cond b (Some k) None) (lt-ltb k (length (names_in rows)) (omega arith))
 
-pub place_none : (inputs : ℕ) (rows : List Row) (k : ℕ) → AreNamed inputs rows → length rows ≤ k → k < 999 → place_of rows (service_name inputs k) ≡ None
+pub place_none : (inputs : ℕ) (rows : List Row) (k : ℕ) → AreNamed inputs rows → length rows ≤ k → k < 999 → find_service rows (service_name inputs k) ≡ None
 place_none inputs rows k named h small =
     let count : length (names_in rows) ≡ length rows = length-map rows (λ (row : Row). row.name) in
     let at : position_or_len (bytes_eq (service_name inputs k)) (names_in rows) ≡ length (names_in rows) =

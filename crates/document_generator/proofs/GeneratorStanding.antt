@@ -4,7 +4,7 @@ use Rattle.std.specs.Prelude.{◌&&◌, ◌||◌, nat_lt, nat_le, ℤ}
 use Rattle.std.proofs.lemmas.Bool.{cases_lt}
 use Rattle.std.proofs.lemmas.Bool.Decides.{nat_tests}
 use Rattle.std.proofs.lemmas.List.{append-nil}
-use Rattle.propagation.specs.Words.{is_among}
+use Rattle.propagation.specs.Lists.{is_among}
 use Rattle.svc_value.specs.Value.{has_type}
 use Rattle.svc_value.specs.declared.value.Value.TheVariants as value
 use Rattle.svc_value.specs.declared.value.ValueType.TheVariants as type
@@ -13,7 +13,7 @@ use Rattle.svc_graph.specs.declared.definition.Change.TheVariants as change
 use Rattle.svc_graph.specs.declared.definition.Definition.{Definition}
 use Rattle.svc_graph.specs.declared.definition.Definition.TheVariants as definition
 use Rattle.svc_graph.specs.declared.kind.Kind.{Kind}
-use Rattle.svc_graph.specs.History.{Row, row_at, history_of, present, roster_of, place_of}
+use Rattle.svc_graph.specs.History.{Row, row_at, history_of, present, roster_of, find_service}
 use Rattle.svc_graph.specs.Refusals.{kind_at, is_derived, is_high, is_text, last_dependencies, last_members, has_wrong_type, has_too_many, names_high, sets_derived, changes_input, brings_again, drops_other}
 use Rattle.svc_graph.proofs.Changed.{kind_at-roster}
 use Rattle.svc_expr.specs.Types.{is_same}
@@ -22,7 +22,7 @@ use Rattle.document_reading.specs.declared.refusal.Code.{Code}
 use Rattle.document_reading.specs.declared.refusal.Code.TheVariants.{E08, E09, E10, E11, E13, E14, E15, E16, E17, E19}
 use Rattle.document_reading.specs.declared.statement.Statement.TheVariants.{Set, Add, Drop}
 use Rattle.document_reading.specs.Refusals.{holds}
-use Rattle.document_reading.specs.State.{State, number_of}
+use Rattle.document_reading.specs.State.{State, service_named}
 use Rattle.document_generator.specs.Generator.{service_name}
 use Rattle.document_generator.proofs.GeneratorLines.{member_sum}
 use Rattle.document_generator.proofs.GeneratorNames.{AreNamed, place_is}
@@ -54,10 +54,10 @@ module _ {inputs n c : ℕ} {members : List (List ℕ)} {state : State} (s : Sta
   pub rows_named : AreNamed inputs state.rows
   rows_named k h = (s.rows k (omega (arith, s.count))).name
 
-  pub place : (k : ℕ) → k < n → place_of state.rows (service_name inputs k) ≡ Some k
+  pub place : (k : ℕ) → k < n → find_service state.rows (service_name inputs k) ≡ Some k
   place k h = place_is inputs state.rows k rows_named (omega (arith, s.count)) (omega (arith, s.count))
 
-  pub number : (k : ℕ) → k < n → number_of state.rows (service_name inputs k) ≡ k
+  pub number : (k : ℕ) → k < n → service_named state.rows (service_name inputs k) ≡ k
   number k h = ap (λ (o : Option ℕ). unwrap_or o 0) (place k h)
 
   kind : (k rank : ℕ) → k < n → (row_at state.rows k).rank ≡ rank → kind_at (roster_of state.rows) k ≡ record { rank = rank; ty = type.Int }
@@ -127,13 +127,13 @@ module _ {inputs n c : ℕ} {members : List (List ℕ)} {state : State} (s : Sta
   last_is : present (history_of state.rows (inputs + d)) ≡ Some (sum_of_these (slice_index_or members d []))
   last_is = (s.rows (inputs + d) h).last (omega arith) ∙ ap (λ (k : ℕ). Some (sum_of_these (slice_index_or members k []))) (omega arith)
 
-  both_known : (is_none (place_of state.rows (service_name inputs (inputs + d))) || (is_none (place_of state.rows (service_name inputs q)) || false)) ≡ false
+  both_known : (is_none (find_service state.rows (service_name inputs (inputs + d))) || (is_none (find_service state.rows (service_name inputs q)) || false)) ≡ false
   both_known = (λ i. is_none (place s few room (inputs + d) h i) || (is_none (place s few room q (omega arith) i) || false))
 
   -- what a test says of the change that takes or brings the member
   of_member : (test : List Kind → ℕ → Option Definition → Change → Bool) (made : ℕ → Change) → test (roster_of state.rows) (inputs + d) (present (history_of state.rows (inputs + d))) (made q) ≡ false
-      → (test (roster_of (state.rows ++ [])) (number_of state.rows (service_name inputs (inputs + d))) (present (history_of (state.rows ++ []) (number_of state.rows (service_name inputs (inputs + d)))))
-      (made (number_of state.rows (service_name inputs q))) || false) ≡ false
+      → (test (roster_of (state.rows ++ [])) (service_named state.rows (service_name inputs (inputs + d))) (present (history_of (state.rows ++ []) (service_named state.rows (service_name inputs (inputs + d)))))
+      (made (service_named state.rows (service_name inputs q))) || false) ≡ false
   of_member test made g = tested test state.rows _ (inputs + d) _ (made q) (number s few room (inputs + d) h) (ap made (number s few room q (omega arith))) g
 
   pub add_holds : is_among (slice_index_or members d []) q ≡ false → length (slice_index_or members d []) < 16 → (code : Code)

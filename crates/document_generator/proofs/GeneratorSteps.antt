@@ -10,11 +10,11 @@ use Rattle.svc_graph.specs.declared.definition.Change.{Change}
 use Rattle.svc_graph.specs.declared.definition.Change.TheVariants as change
 use Rattle.svc_graph.specs.declared.definition.Definition.{Definition}
 use Rattle.svc_graph.specs.declared.definition.Definition.TheVariants as definition
-use Rattle.svc_graph.specs.History.{Row, row_at, present, changed, grown, brought, declared_row}
+use Rattle.svc_graph.specs.History.{Row, row_at, present, rows_after_change, row_after, definitions_brought, declared_row}
 use Rattle.svc_graph.proofs.Changed.{length-changed, row_at-changed, row_at-changed_other}
 use Rattle.svc_graph.proofs.Lists.{slice_get-push}
 use Rattle.document_reading.specs.declared.statement.Statement.TheVariants.{Input, Set, Add, Drop}
-use Rattle.document_reading.specs.State.{State, next, number_of}
+use Rattle.document_reading.specs.State.{State, next, service_named}
 use Rattle.document_generator.specs.Generator.{service_name}
 use Rattle.document_generator.proofs.GeneratorDeclared.{new_row, old_row, sum_named, numbers_are}
 use Rattle.document_generator.proofs.GeneratorStanding.{IsRow, Stands, sum_of_these, number}
@@ -27,8 +27,8 @@ present_push history last =
     ap (slice_get (history ++ last ∷ [])) (let e = length-append history (last ∷ []) in omega arith) ∙ slice_get-push history last
 
 -- where one row grows, each row is as it should be
-rows_changed : {inputs n : ℕ} {new : List (List ℕ)} (rows after : List Row) (k : ℕ) (made : Change) → after ≡ changed rows k made → k < length rows
-    → IsRow inputs new k (grown (row_at rows k) made)
+rows_changed : {inputs n : ℕ} {new : List (List ℕ)} (rows after : List Row) (k : ℕ) (made : Change) → after ≡ rows_after_change rows k made → k < length rows
+    → IsRow inputs new k (row_after (row_at rows k) made)
     → ((j : ℕ) → j < n → (j ≡ k → ⊥) → IsRow inputs new j (row_at rows j))
     → (j : ℕ) → j < n → IsRow inputs new j (row_at after j)
 rows_changed {inputs} {n} {new} rows after k made e within here there j h =
@@ -46,8 +46,8 @@ pub set_stands : {inputs n c : ℕ} {members : List (List ℕ)} {state : State} 
     → (k : ℕ) (v : ℤ) → k < inputs → k < n → Stands inputs n (c + 1) members (next state (Set (service_name inputs k) (value.Int v)))
 set_stands {inputs} {n} {c} {members} {state} s few room k v i h =
     let made = change.Set (value.Int v) in
-    let e : changed (state.rows ++ []) (number_of state.rows (service_name inputs k)) made ≡ changed state.rows k made =
-    (λ t. changed (append-nil state.rows t) (number s few room k h t) made) in
+    let e : rows_after_change (state.rows ++ []) (service_named state.rows (service_name inputs k)) made ≡ rows_after_change state.rows k made =
+    (λ t. rows_after_change (append-nil state.rows t) (number s few room k h t) made) in
     let row = s.rows k h in
     record {
       legs = s.legs;
@@ -63,8 +63,8 @@ set_stands {inputs} {n} {c} {members} {state} s few room k v i h =
 module _ {inputs n c : ℕ} {members : List (List ℕ)} {state : State} (s : Stands inputs n c members state) (few : n ≤ 64) (room : c < 1024) (d q : ℕ) (h : inputs + d < n) (low : q < inputs + d)
     (within : d < length members) where
   -- the row of a derived service whose members are others now
-  other_members : (ms : List ℕ) (made : Change) → brought (Some (sum_of_these (slice_index_or members d []))) made ≡ sum_of_these ms ∷ []
-      → IsRow inputs (slice_set members d ms) (inputs + d) (grown (row_at state.rows (inputs + d)) made)
+  other_members : (ms : List ℕ) (made : Change) → definitions_brought (Some (sum_of_these (slice_index_or members d []))) made ≡ sum_of_these ms ∷ []
+      → IsRow inputs (slice_set members d ms) (inputs + d) (row_after (row_at state.rows (inputs + d)) made)
   other_members ms made b =
       let row = s.rows (inputs + d) h in
       let at : inputs + d - inputs ≡ d = omega arith in
@@ -76,7 +76,7 @@ module _ {inputs n c : ℕ} {members : List (List ℕ)} {state : State} (s : Sta
         input = row.input;
         rank = row.rank;
         last = λ above.
-            ap (λ (last : Option Definition). present ((row_at state.rows (inputs + d)).history ++ brought last made)) before
+            ap (λ (last : Option Definition). present ((row_at state.rows (inputs + d)).history ++ definitions_brought last made)) before
             ∙ ap (λ (new : List Definition). present ((row_at state.rows (inputs + d)).history ++ new)) b
             ∙ present_push (row_at state.rows (inputs + d)).history (sum_of_these ms)
             ∙ sym (ap (λ (l : List ℕ). Some (sum_of_these l)) (ap (λ (k : ℕ). slice_index_or (slice_set members d ms) k []) at ∙ get_or-set_same members d ms [] within));
@@ -99,8 +99,8 @@ module _ {inputs n c : ℕ} {members : List (List ℕ)} {state : State} (s : Sta
   pub add_stands : Stands inputs n (c + 1) (slice_set members d (slice_index_or members d [] ++ q ∷ [])) (next state (Add (service_name inputs (inputs + d)) (service_name inputs q)))
   add_stands =
       let made = change.Add q in
-      let e : changed (state.rows ++ []) (number_of state.rows (service_name inputs (inputs + d))) (change.Add (number_of state.rows (service_name inputs q))) ≡ changed state.rows (inputs + d) made =
-      (λ t. changed (append-nil state.rows t) (number s few room (inputs + d) h t) (change.Add (number s few room q (omega arith) t))) in
+      let e : rows_after_change (state.rows ++ []) (service_named state.rows (service_name inputs (inputs + d))) (change.Add (service_named state.rows (service_name inputs q))) ≡ rows_after_change state.rows (inputs + d) made =
+      (λ t. rows_after_change (append-nil state.rows t) (number s few room (inputs + d) h t) (change.Add (number s few room q (omega arith) t))) in
       record {
         legs = s.legs;
         changes = length-append state.open_leg.changes _ ∙ ap (λ (m : ℕ). m + 1) s.changes;
@@ -111,8 +111,8 @@ module _ {inputs n c : ℕ} {members : List (List ℕ)} {state : State} (s : Sta
   pub drop_stands : Stands inputs n (c + 1) (slice_set members d (filter (λ p. not (p == q)) (slice_index_or members d []))) (next state (Drop (service_name inputs (inputs + d)) (service_name inputs q)))
   drop_stands =
       let made = change.Drop q in
-      let e : changed (state.rows ++ []) (number_of state.rows (service_name inputs (inputs + d))) (change.Drop (number_of state.rows (service_name inputs q))) ≡ changed state.rows (inputs + d) made =
-      (λ t. changed (append-nil state.rows t) (number s few room (inputs + d) h t) (change.Drop (number s few room q (omega arith) t))) in
+      let e : rows_after_change (state.rows ++ []) (service_named state.rows (service_name inputs (inputs + d))) (change.Drop (service_named state.rows (service_name inputs q))) ≡ rows_after_change state.rows (inputs + d) made =
+      (λ t. rows_after_change (append-nil state.rows t) (number s few room (inputs + d) h t) (change.Drop (number s few room q (omega arith) t))) in
       record {
         legs = s.legs;
         changes = length-append state.open_leg.changes _ ∙ ap (λ (m : ℕ). m + 1) s.changes;
@@ -132,7 +132,7 @@ input_stands {inputs} {n} {c} {members} {state} s below v =
       changes = length-append state.open_leg.changes _ ∙ ap (λ (m : ℕ). m + 1) s.changes;
       count = length-changed (state.rows ++ row ∷ []) (length state.rows) made ∙ length-append state.rows (row ∷ []) ∙ ap (λ (m : ℕ). m + 1) s.count;
       rows = rows_changed (state.rows ++ row ∷ []) _ (length state.rows) made refl (let e = length-append state.rows (row ∷ []) in omega arith)
-          (subst (λ (r : Row). IsRow inputs members (length state.rows) (grown r made)) (sym (new_row state.rows row))
+          (subst (λ (r : Row). IsRow inputs members (length state.rows) (row_after r made)) (sym (new_row state.rows row))
           (record { name = ap (service_name inputs) (sym s.count); ty = refl; input = λ b. refl; rank = λ a. absurd (omega (arith, s.count)); last = λ a. absurd (omega (arith, s.count)) }))
           (λ j g other.
           let old : j < n = let e = s.count in let apart : j ≡ n → ⊥ = λ f. other (omega arith) in omega arith in
@@ -145,15 +145,15 @@ derived_stands {inputs} {c} {members} {state} d s few room count ps low =
     let row = declared_row (service_name inputs (inputs + d)) (d + 1) type.Int in
     let made = change.Birth (sum_of_these ps) in
     let all = state.rows ++ row ∷ [] in
-    let e : changed all (length state.rows) (change.Birth (sum_of_these (map (number_of state.rows) (map (service_name inputs) ps)))) ≡ changed all (length state.rows) made =
-    ap (λ (ms : List ℕ). changed all (length state.rows) (change.Birth (sum_of_these ms))) (numbers_are d s few room ps low ps low) in
+    let e : rows_after_change all (length state.rows) (change.Birth (sum_of_these (map (service_named state.rows) (map (service_name inputs) ps)))) ≡ rows_after_change all (length state.rows) made =
+    ap (λ (ms : List ℕ). rows_after_change all (length state.rows) (change.Birth (sum_of_these ms))) (numbers_are d s few room ps low ps low) in
     let at : length state.rows - inputs ≡ length members = omega (arith, s.count) in
     record {
       legs = s.legs;
       changes = length-append state.open_leg.changes _ ∙ ap (λ (m : ℕ). m + 1) s.changes;
       count = ap length e ∙ length-changed all (length state.rows) made ∙ length-append state.rows (row ∷ []) ∙ ap (λ (m : ℕ). m + 1) s.count ∙ omega arith;
       rows = rows_changed all _ (length state.rows) made e (let e = length-append state.rows (row ∷ []) in omega arith)
-          (subst (λ (r : Row). IsRow inputs (members ++ ps ∷ []) (length state.rows) (grown r made)) (sym (new_row state.rows row))
+          (subst (λ (r : Row). IsRow inputs (members ++ ps ∷ []) (length state.rows) (row_after r made)) (sym (new_row state.rows row))
           (record {
             name = ap (service_name inputs) (sym s.count);
             ty = refl;

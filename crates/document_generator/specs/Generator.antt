@@ -1,14 +1,14 @@
 -- The document of the generator. Each draw leads from a number x to the next one, and the draws are made in the order of the lines.
 use Rattle.std.specs.Prelude.{ℕ, zero, suc, pos, ◌+◌, ◌-◌, ◌*◌, ◌/◌, ◌%◌, ◌==◌, max, not, nat_lt, if◌then◌else◌, List, [], ◌∷◌, ◌++◌, length, filter, slice_index_or, slice_set, codes}
-use Rattle.propagation.specs.Words.{is_among}
+use Rattle.propagation.specs.Lists.{is_among}
 use Rattle.svc_value.specs.declared.value.Value.TheVariants.{Int}
-use Rattle.svc_value.specs.Printed.{printed}
+use Rattle.svc_value.specs.Printed.{printed_value}
 
 -- ---- draws
 
 -- x after one draw more; a draw below m answers what is left of it by m
-abbrev pub drawn : ℕ → ℕ
-drawn x = (x * 75 + 74) % 65537
+abbrev pub next_draw : ℕ → ℕ
+next_draw x = (x * 75 + 74) % 65537
 
 -- of so many services so many are inputs
 abbrev pub inputs_of : ℕ → ℕ
@@ -18,7 +18,7 @@ inputs_of services = max 1 (services / 4)
 
 -- a number in decimal digits
 unfoldable pub number_text : ℕ → List ℕ
-number_text n = printed (Int (pos n))
+number_text n = printed_value (Int (pos n))
 
 -- the name of the k-th input, from 1
 abbrev pub input_name : ℕ → List ℕ
@@ -82,7 +82,7 @@ with_members n members draft = record draft { members = slice_set draft.members 
 
 -- the k-th input, whose value is a draw below 1000
 abbrev pub with_input : ℕ → Draft → Draft
-with_input k draft = with_line (drawn draft.x) (input_line k (drawn draft.x % 1000)) draft
+with_input k draft = with_line (next_draw draft.x) (input_line k (next_draw draft.x % 1000)) draft
 
 -- derived service n, from 0, with the members p and q, or p alone where both are the same
 abbrev pub with_pair : ℕ → ℕ → ℕ → ℕ → ℕ → Draft → Draft
@@ -92,7 +92,7 @@ with_pair inputs n p q x draft =
 -- derived service n, from 0, whose members are two draws below the number of services so far
 abbrev pub with_derived : ℕ → ℕ → Draft → Draft
 with_derived inputs n draft =
-    with_pair inputs n (drawn draft.x % (inputs + n)) (drawn (drawn draft.x) % (inputs + n)) (drawn (drawn draft.x)) draft
+    with_pair inputs n (next_draw draft.x % (inputs + n)) (next_draw (next_draw draft.x) % (inputs + n)) (next_draw (next_draw draft.x)) draft
 
 -- the k-th input is set to the draw below 1000 that led to this x
 abbrev pub with_set : ℕ → ℕ → Draft → Draft
@@ -103,24 +103,24 @@ abbrev pub with_turn : ℕ → ℕ → ℕ → ℕ → Draft → Draft
 with_turn inputs n q x draft =
     if is_among (members_at draft n) q then with_line x (drop_line inputs (n + 1) q) (with_members n (filter (λ p. not (p == q)) (members_at draft n)) draft)
     else (if nat_lt (length (members_at draft n)) 16 then with_line x (add_line inputs (n + 1) q) (with_members n (members_at draft n ++ q ∷ []) draft)
-    else with_set 1 (drawn x) draft)
+    else with_set 1 (next_draw x) draft)
 
 -- a service is drawn below those before derived service n, from 0, which takes its turn; x is that before the draw
 abbrev pub with_drawn_member : ℕ → ℕ → ℕ → Draft → Draft
-with_drawn_member inputs n x draft = with_turn inputs n (drawn x % (inputs + n)) (drawn x) draft
+with_drawn_member inputs n x draft = with_turn inputs n (next_draw x % (inputs + n)) (next_draw x) draft
 
 -- an input and its value are drawn
 abbrev pub with_new_value : ℕ → ℕ → Draft → Draft
-with_new_value inputs x draft = with_set (drawn x % inputs + 1) (drawn (drawn x)) draft
+with_new_value inputs x draft = with_set (next_draw x % inputs + 1) (next_draw (next_draw x)) draft
 
 -- a derived service and a service before it are drawn
 abbrev pub with_new_members : ℕ → ℕ → ℕ → Draft → Draft
-with_new_members inputs services x draft = with_drawn_member inputs (drawn x % (services - inputs)) (drawn x) draft
+with_new_members inputs services x draft = with_drawn_member inputs (next_draw x % (services - inputs)) (next_draw x) draft
 
 -- a change: a draw below 4 says whether an input has a new value or a derived service other members
 abbrev pub with_change : ℕ → ℕ → Draft → Draft
 with_change inputs services draft =
-    if nat_lt (drawn draft.x % 4) 3 then with_new_value inputs (drawn draft.x) draft else with_new_members inputs services (drawn draft.x) draft
+    if nat_lt (next_draw draft.x % 4) 3 then with_new_value inputs (next_draw draft.x) draft else with_new_members inputs services (next_draw draft.x) draft
 
 -- ---- the document
 

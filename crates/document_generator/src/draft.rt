@@ -1,9 +1,9 @@
 // A document that is being generated, line by line.
 ghost use Rattle.std.specs.Prelude.{◌≡◌, ◌<◌, ◌≤◌, ◌+◌, ◌-◌, ◌%◌, [], ◌++◌, length, codes, OnOk, IfOk};
-ghost use Rattle.document_generator.specs.Generator.{drawn, with_input, with_derived, with_set, with_turn, with_drawn_member, with_new_value, with_new_members, with_change};
+ghost use Rattle.document_generator.specs.Generator.{next_draw, with_input, with_derived, with_set, with_turn, with_drawn_member, with_new_value, with_new_members, with_change};
 
 use crate::lines::{write_add, write_derived, write_drop, write_input, write_set};
-use crate::members::{MOST_MEMBERS, Members};
+use crate::members::{MAX_DEPENDENCIES, Members};
 use std::alloc::Global;
 use std::marker::Model;
 use svc_value::OutOfMemory;
@@ -45,8 +45,8 @@ impl Draft {
     // A draw below a number.
     fn draw(&mut self, below: u16) -> u16
         requires { 0 < below }
-        ensures value { result ≡ drawn self.old.x % below }
-        ensures draft { self.new ≡ record self.old { x = drawn self.old.x } }
+        ensures value { result ≡ next_draw self.old.x % below }
+        ensures draft { self.new ≡ record self.old { x = next_draw self.old.x } }
     {
         self.x = (self.x * 75 + 74) % 65537;
         (self.x % u32::from(below)) as u16
@@ -75,7 +75,7 @@ impl Draft {
 
     // Sets the k-th input.
     fn set(&mut self, k: u16) -> Result<(), OutOfMemory>
-        ensures { OnOk result (self.new ≡ with_set k (drawn self.old.x) self.old) }
+        ensures { OnOk result (self.new ≡ with_set k (next_draw self.old.x) self.old) }
     {
         let value = self.draw(1000);
         write_set(&mut self.text, k, value)
@@ -92,7 +92,7 @@ impl Draft {
         if members.contains(q) {
             members.remove(q);
             write_drop(&mut self.text, inputs, n + 1, q)
-        } else if members.len() < MOST_MEMBERS {
+        } else if members.len() < MAX_DEPENDENCIES {
             members.add(q)?;
             write_add(&mut self.text, inputs, n + 1, q)
         } else {

@@ -1,13 +1,13 @@
 // The members of one generated service.
 ghost use Rattle.std.specs.Prelude.{◌≡◌, ◌==◌, [], ◌∷◌, ◌++◌, not, filter, length, if◌then◌else◌, IfOk, OnOk};
-ghost use Rattle.propagation.specs.Words.{is_among};
+ghost use Rattle.propagation.specs.Lists.{is_among};
 
 use std::alloc::Global;
 use std::marker::Model;
 use svc_value::{OutOfMemory, ServiceId};
 
 /// The most members of a generated service.
-pub const MOST_MEMBERS: usize = 16;
+pub const MAX_DEPENDENCIES: usize = 16;
 
 /// The members of one generated service, by number. Contracts see them as the list.
 #[derive(Drop)]
@@ -35,7 +35,7 @@ impl Members {
     pub fn new(alloc: Global, p: u16, q: u16) -> Result<Members, OutOfMemory>
         ensures { IfOk result (λ members. members ≡ (if p == q then p ∷ [] else p ∷ q ∷ [])) }
     {
-        let mut numbers = Vec::with_capacity(alloc, MOST_MEMBERS)?;
+        let mut numbers = Vec::with_capacity(alloc, MAX_DEPENDENCIES)?;
         numbers.push(ServiceId(p))?;
         if p != q {
             numbers.push(ServiceId(q))?;

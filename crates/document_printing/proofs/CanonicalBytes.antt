@@ -10,7 +10,7 @@ use Rattle.std.proofs.lemmas.Str.{IsUtf8-append, IsUtf8-nil, IsUtf8-encode, enco
 use lib.Utf8.{scalar, scalars, encode, encodes, low_scalar}
 use Rattle.svc_token.specs.Word.{is_word_byte, is_word, IsName}
 use Rattle.svc_token.proofs.WordLemmas.{IsName-utf8}
-use Rattle.svc_value.specs.Printed.{quoted_byte, quoted}
+use Rattle.svc_value.specs.Printed.{quoted_byte, between_quotes}
 use Rattle.svc_value.proofs.Quoting.{quoted_plain}
 
 -- ---- texts of a line
@@ -112,7 +112,7 @@ quoted_no_end (x ∷ xs) = no_end-append (quoted_byte x) (flat_map quoted_byte x
       | inr big ↦ subst HasNoEnd (sym (high_itself x big)) ((λ e. omega (arith, e, big)), tt)
     ]
 
-pub quoted_inner : (text : List ℕ) → IsUtf8 text → IsInner (quoted text)
+pub quoted_inner : (text : List ℕ) → IsUtf8 text → IsInner (between_quotes text)
 quoted_inner text u =
     let inside : IsInner (flat_map quoted_byte text) = record { utf8 = subst (λ l. IsUtf8 (flat_map quoted_byte l)) u.1.1 (all_chars u.0 u.1.0); no_end = quoted_no_end text } in
     inner_then 34 _ (omega arith) (λ e. omega (arith, e)) (inner-append inside (by_test (34 ∷ []) refl))

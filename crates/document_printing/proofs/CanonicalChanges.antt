@@ -4,7 +4,7 @@ use Rattle.std.specs.Prelude.{◌||◌, nat_lt}
 use Rattle.std.specs.List.{list_any}
 use Rattle.std.proofs.lemmas.Bool.Decides.{nat_tests}
 use Rattle.svc_expr.specs.Tree.{tree_of}
-use Rattle.svc_graph.proofs.Apart.{or_left, or_right}
+use Rattle.svc_graph.proofs.AreDistinct.{or_left, or_right}
 use Rattle.svc_graph.specs.declared.definition.Change.TheVariants as change
 use Rattle.svc_graph.specs.declared.definition.Definition.TheVariants as definition
 use Rattle.svc_graph.specs.History.{Row}
@@ -18,7 +18,7 @@ use Rattle.document_reading.specs.declared.statement.Statement.{Statement}
 use Rattle.document_reading.specs.declared.statement.Statement.TheVariants.{Silence, Input, Derived, Set, Add, Drop, Define, Settle, Do, Take, Turn}
 use Rattle.document_reading.specs.Document.{IsLine}
 use Rattle.document_reading.specs.Refusals.{is_unknown}
-use Rattle.document_reading.specs.State.{State, declares, changes, formula_of, number_of}
+use Rattle.document_reading.specs.State.{State, declares, changes, formula_of, service_named}
 use Rattle.document_printing.specs.Canonical.{service_at, name_of, change_text}
 use Rattle.document_printing.proofs.CanonicalBytes.{HasNoEnd}
 use Rattle.document_printing.proofs.CanonicalFormulas.{IsReadable, body_of}
@@ -85,8 +85,8 @@ low rank h = grind (arith, nat_tests)
 -- ---- changes
 
 module _ (rows : List Row) (more : List ServiceLine) where
-  name_is : (name : List ℕ) → is_unknown rows name ≡ false → name_of (lines_in rows ++ more) (number_of rows name) ≡ name
-  name_is name h = known_name (lines_in rows ++ more) name (number_of rows name) (known_grows (lines_in rows) more name _ (known_in rows name h))
+  name_is : (name : List ℕ) → is_unknown rows name ≡ false → name_of (lines_in rows ++ more) (service_named rows name) ≡ name
+  name_is name h = known_name (lines_in rows ++ more) name (service_named rows name) (known_grows (lines_in rows) more name _ (known_in rows name h))
 
   formula_is : (formula : NamedFormula) → list_any (is_unknown rows) (formula.names ++ formula.members) ≡ false → said_formula (lines_in rows ++ more) (formula_of rows formula) ≡ Formula formula
   formula_is formula h =
@@ -133,35 +133,35 @@ module _ (m : Mode) (s : State) (more : List ServiceLine) where
       let e = name_is s.rows more name (or_left _ _ fit.names) in
       let c = change.Set value in
       record {
-        text = change_text all (number_of s.rows name) c;
+        text = change_text all (service_named s.rows name) c;
         alone = refl;
         line = λ short.
-            let p = change_line all (number_of s.rows name) c (subst IsName (sym e) can.0) can.1 short in
-            (subst (IsLine (change_text all (number_of s.rows name) c)) (ap (λ (n : List ℕ). Set n value) e) p.0, p.1);
+            let p = change_line all (service_named s.rows name) c (subst IsName (sym e) can.0) can.1 short in
+            (subst (IsLine (change_text all (service_named s.rows name) c)) (ap (λ (n : List ℕ). Set n value) e) p.0, p.1);
       }
   said_again (Add reader member) is fit can =
       let all = lines_in s.rows ++ more in
       let e = name_is s.rows more reader (or_left _ _ fit.names) in
       let f = name_is s.rows more member (or_left _ _ (or_right _ _ fit.names)) in
-      let c = change.Add (number_of s.rows member) in
+      let c = change.Add (service_named s.rows member) in
       record {
-        text = change_text all (number_of s.rows reader) c;
+        text = change_text all (service_named s.rows reader) c;
         alone = refl;
         line = λ short.
-            let p = change_line all (number_of s.rows reader) c (subst IsName (sym e) can.0) (subst IsName (sym f) can.1) short in
-            (subst (IsLine (change_text all (number_of s.rows reader) c)) (ap₂ (λ (a b : List ℕ). Add a b) e f) p.0, p.1);
+            let p = change_line all (service_named s.rows reader) c (subst IsName (sym e) can.0) (subst IsName (sym f) can.1) short in
+            (subst (IsLine (change_text all (service_named s.rows reader) c)) (ap₂ (λ (a b : List ℕ). Add a b) e f) p.0, p.1);
       }
   said_again (Drop reader member) is fit can =
       let all = lines_in s.rows ++ more in
       let e = name_is s.rows more reader (or_left _ _ fit.names) in
       let f = name_is s.rows more member (or_left _ _ (or_right _ _ fit.names)) in
-      let c = change.Drop (number_of s.rows member) in
+      let c = change.Drop (service_named s.rows member) in
       record {
-        text = change_text all (number_of s.rows reader) c;
+        text = change_text all (service_named s.rows reader) c;
         alone = refl;
         line = λ short.
-            let p = change_line all (number_of s.rows reader) c (subst IsName (sym e) can.0) (subst IsName (sym f) can.1) short in
-            (subst (IsLine (change_text all (number_of s.rows reader) c)) (ap₂ (λ (a b : List ℕ). Drop a b) e f) p.0, p.1);
+            let p = change_line all (service_named s.rows reader) c (subst IsName (sym e) can.0) (subst IsName (sym f) can.1) short in
+            (subst (IsLine (change_text all (service_named s.rows reader) c)) (ap₂ (λ (a b : List ℕ). Drop a b) e f) p.0, p.1);
       }
   said_again (Define name (Formula formula)) is fit can =
       let all = lines_in s.rows ++ more in
@@ -169,11 +169,11 @@ module _ (m : Mode) (s : State) (more : List ServiceLine) where
       let c = change.Define (formula_of s.rows formula) in
       let known = or_right (is_unknown s.rows name) (list_any (is_unknown s.rows) (formula.names ++ formula.members)) fit.names in
       record {
-        text = change_text all (number_of s.rows name) c;
+        text = change_text all (service_named s.rows name) c;
         alone = refl;
         line = λ short.
-            let p = change_line all (number_of s.rows name) c (subst IsName (sym e) can.0) (formula_has s.rows more formula known can.1) short in
-            (subst (IsLine (change_text all (number_of s.rows name) c)) (ap₂ (λ (n : List ℕ) (body : Body). Define n body) e (formula_is s.rows more formula known)) p.0, p.1);
+            let p = change_line all (service_named s.rows name) c (subst IsName (sym e) can.0) (formula_has s.rows more formula known can.1) short in
+            (subst (IsLine (change_text all (service_named s.rows name) c)) (ap₂ (λ (n : List ℕ) (body : Body). Define n body) e (formula_is s.rows more formula known)) p.0, p.1);
       }
   said_again (Define name TooLarge) is fit can = absurd (let never = fit.size in cc never)
   said_again Silence is fit can = absurd is

@@ -5,7 +5,7 @@ use Rattle.svc_graph.specs.declared.definition.Change.{Change}
 use Rattle.svc_graph.specs.declared.definition.Change.TheVariants.{Birth, Set, Add, Drop, Define}
 use Rattle.svc_graph.specs.declared.definition.Definition.TheVariants.{Input, Derived}
 use Rattle.svc_graph.specs.Accepting.{HasForm}
-use Rattle.svc_graph.specs.History.{Row, changed, row_at}
+use Rattle.svc_graph.specs.History.{Row, rows_after_change, row_at}
 use Rattle.svc_graph.proofs.Changed.{length-changed}
 use Rattle.svc_plan.specs.declared.plan.Leg.{Leg}
 use Rattle.svc_plan.specs.declared.plan.PlanChange.{PlanChange}
@@ -26,7 +26,7 @@ names_there rank (Define formula) form = form
 
 pub length-with_changes : (rows : List Row) (changes : List PlanChange) → length (with_changes rows changes) ≡ length rows
 length-with_changes rows [] = refl
-length-with_changes rows (x ∷ changes) = length-with_changes (changed rows x.id x.change) changes ∙ length-changed rows x.id x.change
+length-with_changes rows (x ∷ changes) = length-with_changes (rows_after_change rows x.id x.change) changes ∙ length-changed rows x.id x.change
 
 pub length-with_services : (rows : List Row) (lines : List ServiceLine) → length (with_services rows lines) ≡ length rows + length lines
 length-with_services rows lines = length-append rows (map row_of lines) ∙ ap (λ n. length rows + n) (length-map lines row_of)
@@ -41,7 +41,7 @@ changes_printable rows [] count accepted few k d less = absurd (omega arith)
 changes_printable rows (x ∷ changes) count accepted few zero d less =
     (omega (arith, accepted.0.form.declared, few), names_there (row_at rows x.id).rank x.change accepted.0.form.form)
 changes_printable rows (x ∷ changes) count accepted few (suc k) d less =
-    changes_printable (changed rows x.id x.change) changes count accepted.1 (omega (arith, length-changed rows x.id x.change, few)) k d (omega arith)
+    changes_printable (rows_after_change rows x.id x.change) changes count accepted.1 (omega (arith, length-changed rows x.id x.change, few)) k d (omega arith)
 
 legs_printable : (rows : List Row) (legs : List Leg) (count : ℕ) → AreLegsAfter rows legs → length rows + length (services_of legs) ≤ count
     → All (λ leg. All (IsPrintable count) leg.changes) legs

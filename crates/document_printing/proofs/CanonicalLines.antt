@@ -14,13 +14,13 @@ use Rattle.svc_value.specs.declared.value.Value.{Value}
 use Rattle.svc_value.specs.declared.value.Value.TheVariants.{Int, Words, Bad}
 use Rattle.svc_value.specs.declared.value.ValueType.{ValueType}
 use Rattle.svc_value.specs.declared.value.ValueType.TheVariants as type
-use Rattle.svc_value.specs.Printed.{printed}
+use Rattle.svc_value.specs.Printed.{printed_value}
 use Rattle.svc_plan.specs.declared.plan.ServiceLine.{ServiceLine}
 use Rattle.svc_plan.specs.declared.plan.StepEvent.{StepEvent}
 use Rattle.svc_plan.specs.declared.plan.StepEvent.TheVariants as event
 use Rattle.document_reading.specs.declared.statement.Statement.TheVariants as say
 use Rattle.document_reading.specs.Document.{lines_of, before_first_line, IsLine}
-use Rattle.document_printing.specs.Canonical.{service_at, name_of, type_text, declared_text, over_text, formula_text, change_text, step_text, ended}
+use Rattle.document_printing.specs.Canonical.{service_at, name_of, type_text, declared_text, over_text, formula_text, change_text, step_text, with_line_ends}
 use Rattle.document_printing.proofs.CanonicalBytes.{HasNoEnd, IsInner, inner-append, inner-nil, by_test, quoted_inner, number_inner, name_inner}
 use Rattle.document_printing.proofs.CanonicalFormulas.{each_name, written_with}
 use Rattle.document_printing.proofs.CanonicalSays.{said_change, said_step, HasText, IsWhole, IsSayable, IsStepSayable, change_says, step_says, settle_says}
@@ -86,7 +86,7 @@ type_inner : (ty : ValueType) → IsInner (type_text ty)
 type_inner type.Int = by_test (codes "int") refl
 type_inner type.Text = by_test (codes "text") refl
 
-value_inner : (value : Value) → IsWhole value → IsInner (printed value)
+value_inner : (value : Value) → IsWhole value → IsInner (printed_value value)
 value_inner (Int z) can = number_inner z
 value_inner (Words text) can = quoted_inner text can.within.1
 value_inner (Bad fault) can = absurd can.proper
@@ -148,6 +148,6 @@ abbrev pub HaveNoEnd : List (List ℕ) → Type 0
 HaveNoEnd [] = Unit {0}
 HaveNoEnd (line ∷ lines) = HasNoEnd line × HaveNoEnd lines
 
-pub lines_again : (lines : List (List ℕ)) → HaveNoEnd lines → lines_of (ended lines) ≡ lines
+pub lines_again : (lines : List (List ℕ)) → HaveNoEnd lines → lines_of (with_line_ends lines) ≡ lines
 lines_again [] p = refl
-lines_again (line ∷ lines) p = ap lines_of (append_assoc line (codes "\n") (ended lines)) ∙ one_line line (ended lines) p.0 ∙ ap (λ ls. line ∷ ls) (lines_again lines p.1)
+lines_again (line ∷ lines) p = ap lines_of (append_assoc line (codes "\n") (with_line_ends lines)) ∙ one_line line (with_line_ends lines) p.0 ∙ ap (λ ls. line ∷ ls) (lines_again lines p.1)

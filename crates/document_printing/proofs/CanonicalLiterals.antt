@@ -16,7 +16,7 @@ use Rattle.svc_value.specs.declared.value.Value.{Value}
 use Rattle.svc_value.specs.declared.value.Value.TheVariants.{Int, Words, Bad}
 use Rattle.svc_value.specs.Layout.{IsWithin}
 use Rattle.svc_value.specs.Literal.{IsLiteral as IsLiteralText}
-use Rattle.svc_value.specs.Printed.{is_escaped, quoted_byte, quoted, printed}
+use Rattle.svc_value.specs.Printed.{is_escaped, quoted_byte, between_quotes, printed_value}
 use Rattle.svc_value.specs.Quoted.{any_form, is_itself, Spells, closing, itself, short, hex}
 use Rattle.svc_value.proofs.PrintedQuoted.{Shown, as_itself, as_short, as_hex, shown}
 use Rattle.document_reading.specs.Grammar.{IsLiteral, whole, negative, quoted as is_quoted}
@@ -47,14 +47,14 @@ text_spells (b ∷ t) rest = by (shown b) (text_spells t rest)
     by (as_short c h e) s = moved (92 ∷ c ∷ []) e (short h s)
     by (as_hex high low h e) s = moved (92 ∷ 120 ∷ high ∷ low ∷ []) e (hex (hex_chosen (nat_lt (digit_value high) 8) (nat_lt (digit_value low) 16) _ (digit_value high * 16 + digit_value low) b h) s)
 
-pub quoted_literal : (text : List ℕ) → length text ≤ 256 → IsUtf8 text → IsLiteralText (quoted text) (Words text)
+pub quoted_literal : (text : List ℕ) → length text ≤ 256 → IsUtf8 text → IsLiteralText (between_quotes text) (Words text)
 quoted_literal text most utf8 = record { inside = flat_map quoted_byte text ++ 34 ∷ []; opening = refl; spelled = text_spells text []; most = most; utf8 = utf8 }
 
 -- ---- values
 
 -- the tokens of a printed value
 abbrev pub IsSaid : Value → Type 0
-IsSaid value = (tokens : List Token) × Cuts (printed value) tokens × IsLiteral tokens value
+IsSaid value = (tokens : List Token) × Cuts (printed_value value) tokens × IsLiteral tokens value
 
 pub value_said : (value : Value) → IsProper value → IsWithin value → IsSaid value
 unfolding canon canonical_text
@@ -65,5 +65,5 @@ value_said (Int (negsuc n)) proper within =
     let fits : n < 9223372036854775808 = omega (arith, within.sfits) in
     (Dash ∷ Number (suc n) ∷ [], written [] (number (negsuc n)) (λ k l. absurd (omega arith)) (omega (arith, fits)), negative {n = suc n} (omega (arith, fits)))
 value_said (Words text) proper within =
-    (Quoted (quoted text) ∷ [], written [] (words text) (λ k l. absurd (omega arith)) within, is_quoted (quoted_literal text within.0 within.1))
+    (Quoted (between_quotes text) ∷ [], written [] (words text) (λ k l. absurd (omega arith)) within, is_quoted (quoted_literal text within.0 within.1))
 value_said (Bad fault) proper within = absurd proper

@@ -6,14 +6,14 @@ use Rattle.std.specs.Str.{bytes_eq}
 use Rattle.std.proofs.lemmas.List.{length-append, map-append}
 use Rattle.std.proofs.lemmas.List.Sums.{passes_at_first}
 use Rattle.std.proofs.lemmas.Slice.Eq.{bytes_eq-Decides}
-use Rattle.svc_graph.proofs.Apart.{or_left, or_right}
+use Rattle.svc_graph.proofs.AreDistinct.{or_left, or_right}
 use Rattle.svc_graph.specs.declared.definition.Change.{Change}
-use Rattle.svc_graph.specs.History.{Row, changed, names_in, place_of}
+use Rattle.svc_graph.specs.History.{Row, rows_after_change, names_in, find_service}
 use Rattle.svc_plan.specs.declared.plan.PlanChange.{PlanChange}
 use Rattle.svc_plan.specs.declared.plan.ServiceLine.{ServiceLine}
 use Rattle.svc_plan.specs.Rows.{row_of, with_services, with_changes}
 use Rattle.document_reading.specs.Refusals.{is_unknown}
-use Rattle.document_reading.specs.State.{number_of}
+use Rattle.document_reading.specs.State.{service_named}
 use Rattle.document_printing.specs.Canonical.{service_at, name_of}
 
 -- ---- the declarations of rows
@@ -22,14 +22,14 @@ use Rattle.document_printing.specs.Canonical.{service_at, name_of}
 abbrev pub lines_in : List Row → List ServiceLine
 lines_in rows = map {A = Row} (λ row. record { name = row.name; rank = row.rank; ty = row.ty }) rows
 
-lines-changed : (rows : List Row) (n : ℕ) (change : Change) → lines_in (changed rows n change) ≡ lines_in rows
+lines-changed : (rows : List Row) (n : ℕ) (change : Change) → lines_in (rows_after_change rows n change) ≡ lines_in rows
 lines-changed [] n change = refl
 lines-changed (row ∷ rows) zero change = refl
 lines-changed (row ∷ rows) (suc n) change = ap (λ ls. record { name = row.name; rank = row.rank; ty = row.ty } ∷ ls) (lines-changed rows n change)
 
 lines-changes : (rows : List Row) (changes : List PlanChange) → lines_in (with_changes rows changes) ≡ lines_in rows
 lines-changes rows [] = refl
-lines-changes rows (x ∷ changes) = lines-changes (changed rows x.id x.change) changes ∙ lines-changed rows x.id x.change
+lines-changes rows (x ∷ changes) = lines-changes (rows_after_change rows x.id x.change) changes ∙ lines-changed rows x.id x.change
 
 lines-new : (lines : List ServiceLine) → lines_in (map row_of lines) ≡ lines
 lines-new [] = refl
@@ -94,7 +94,7 @@ place_found : (less : Bool) (n : ℕ) → is_none (cond less (Some n) None) ≡ 
 place_found true n h = (refl, refl)
 place_found false n h = absurd (cc h)
 
-pub known_in : (rows : List Row) (name : List ℕ) → is_unknown rows name ≡ false → Known (lines_in rows) name (number_of rows name)
+pub known_in : (rows : List Row) (name : List ℕ) → is_unknown rows name ≡ false → Known (lines_in rows) name (service_named rows name)
 known_in rows name h =
     let names = names_in rows in
     let place : ℕ = position_or_len (bytes_eq name) names in
@@ -105,7 +105,7 @@ known_in rows name h =
       within = omega (arith, found.1, less, ap length (names-rows rows));
     }
 
-pub place_known : (rows : List Row) (name : List ℕ) (n : ℕ) → Known (lines_in rows) name n → place_of rows name ≡ Some n
+pub place_known : (rows : List Row) (name : List ℕ) (n : ℕ) → Known (lines_in rows) name n → find_service rows name ≡ Some n
 place_known rows name n k =
     let names = names_in rows in
     let first : position_or_len (bytes_eq name) names ≡ n = ap (position_or_len (bytes_eq name)) (names-rows rows) ∙ k.first in
@@ -115,12 +115,12 @@ place_known rows name n k =
 -- ---- lists of names
 
 -- the names of the services that names stand for
-pub names_again : (rows : List Row) (more : List ServiceLine) (names : List (List ℕ)) → list_any (is_unknown rows) names ≡ false → map (name_of (lines_in rows ++ more)) (map (number_of rows) names) ≡ names
+pub names_again : (rows : List Row) (more : List ServiceLine) (names : List (List ℕ)) → list_any (is_unknown rows) names ≡ false → map (name_of (lines_in rows ++ more)) (map (service_named rows) names) ≡ names
 names_again rows more [] h = refl
 names_again rows more (name ∷ names) h =
     let first = or_left (is_unknown rows name) (list_any (is_unknown rows) names) h in
     ap₂ (λ (x : List ℕ) (xs : List (List ℕ)). x ∷ xs)
-    (known_name (lines_in rows ++ more) name (number_of rows name) (known_grows (lines_in rows) more name _ (known_in rows name first)))
+    (known_name (lines_in rows ++ more) name (service_named rows name) (known_grows (lines_in rows) more name _ (known_in rows name first)))
     (names_again rows more names (or_right (is_unknown rows name) (list_any (is_unknown rows) names) h))
 
 -- a service that is declared next

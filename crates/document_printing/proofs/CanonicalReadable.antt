@@ -3,9 +3,9 @@ use Rattle.std.proofs.Common.{◌≡◌, ℕ, zero, suc, ◌<◌, ◌≤◌, Lis
 use Rattle.std.specs.Str.{bytes_eq}
 use Rattle.std.proofs.lemmas.List.Sums.{passes_at_first}
 use Rattle.std.proofs.lemmas.Slice.Eq.{bytes_eq-Decides}
-use Rattle.propagation.specs.Words.{Has}
+use Rattle.propagation.specs.Lists.{Has}
 use Rattle.svc_expr.specs.Canonical.{name_at}
-use Rattle.svc_expr.specs.Grammar.{place_of, with_names, names_among, IsExpression}
+use Rattle.svc_expr.specs.Grammar.{name_index, with_names, names_among, IsExpression}
 use Rattle.svc_expr.specs.Tree.{Tree, IsSmall}
 use Rattle.svc_expr.specs.Types.{mentions}
 use Rattle.svc_expr.proofs.NameLemmas.{top, name_count_is, whole_mentions}
@@ -17,10 +17,10 @@ use Rattle.document_printing.proofs.CanonicalFormulas.{IsReadable}
 
 -- ---- names
 
-name_there : (names : List (List ℕ)) (name : List ℕ) → place_of names name < length names → name_at names (place_of names name) ≡ name
-name_there names name less = (bytes_eq-Decides (name_at names (place_of names name)) name).0 (passes_at_first (λ other. bytes_eq other name) names [] less)
+name_there : (names : List (List ℕ)) (name : List ℕ) → name_index names name < length names → name_at names (name_index names name) ≡ name
+name_there names name less = (bytes_eq-Decides (name_at names (name_index names name)) name).0 (passes_at_first (λ other. bytes_eq other name) names [] less)
 
-names_there : (names xs : List (List ℕ)) → top (map (place_of names) xs) ≤ length names → map (name_at names) (map (place_of names) xs) ≡ xs
+names_there : (names xs : List (List ℕ)) → top (map (name_index names) xs) ≤ length names → map (name_at names) (map (name_index names) xs) ≡ xs
 names_there names [] h = refl
 names_there names (x ∷ xs) h = ap₂ (λ (y : List ℕ) (ys : List (List ℕ)). y ∷ ys) (name_there names x (omega (arith, h))) (names_there names xs (omega (arith, h)))
 
@@ -32,8 +32,8 @@ has_at (name ∷ names) (suc k) d less = inr (has_at names k d (omega (arith, le
 pub readable : (tokens : List Token) (e : Tree) (names : List (List ℕ)) → AreNamed tokens → IsExpression tokens e names → IsSmall e → IsReadable names e
 readable tokens e names named is fits =
     let counted = names_counted tokens e names is in
-    let said : mentions e ≡ map (place_of names) (names_among tokens) = whole_mentions names is.1 in
-    let all : top (map (place_of names) (names_among tokens)) ≤ length names = omega (arith, counted, name_count_is e, ap top said) in
+    let said : mentions e ≡ map (name_index names) (names_among tokens) = whole_mentions names is.1 in
+    let all : top (map (name_index names) (names_among tokens)) ≤ length names = omega (arith, counted, name_count_is e, ap top said) in
     record {
       are_names = λ k d less. name_is_named tokens e names is named (get_or names k d) (has_at names k d less);
       count = omega (arith, counted);

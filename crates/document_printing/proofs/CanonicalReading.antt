@@ -3,7 +3,7 @@ use Rattle.std.proofs.Common.{◌≡◌, ℕ, ◌+◌, ◌≤◌, Bool, true, fa
 use Rattle.std.specs.Prelude.{nat_le, nat_lt, if◌then◌else◌}
 use Rattle.std.proofs.lemmas.List.{map-append}
 use Rattle.std.proofs.lemmas.Grind.{flat_map-append}
-use Rattle.svc_graph.proofs.Apart.{or_left, or_right}
+use Rattle.svc_graph.proofs.AreDistinct.{or_left, or_right}
 use Rattle.svc_graph.specs.History.{Row}
 use Rattle.svc_plan.specs.declared.plan.Leg.{Leg}
 use Rattle.svc_plan.specs.declared.plan.Mode.{Mode}
@@ -16,8 +16,8 @@ use Rattle.document_reading.specs.declared.statement.Statement.TheVariants.{Sile
 use Rattle.document_reading.specs.Document.{lines_of, AcceptsLine, Reads, line as one_more, ends, HasLegs}
 use Rattle.document_reading.specs.Grammar.{Says}
 use Rattle.document_reading.specs.Refusals.{refusal, is_out_of_mode}
-use Rattle.document_reading.specs.State.{State, declares, changes, steps, next, said, start, empty_leg, legs_in}
-use Rattle.document_printing.specs.Canonical.{services_of, leg_lines, ended, canonical_text}
+use Rattle.document_reading.specs.State.{State, declares, changes, steps, next, leg_said, start, empty_leg, legs_in}
+use Rattle.document_printing.specs.Canonical.{services_of, leg_lines, with_line_ends, canonical_text}
 use Rattle.document_printing.proofs.CanonicalAgain.{Follows, alike, Kept, Again, change_lines, leg_more, finish, at_end, short_front, short_behind, have-append}
 use Rattle.document_printing.specs.Canonical.{said_by}
 use Rattle.document_printing.proofs.CanonicalChanges.{CanBeSaid, IsChange, IsSaidAgain, said_again}
@@ -34,7 +34,7 @@ loud : State → Statement → State
 loud s st = record s {
   lines = s.lines + 1;
   rows = with_changes (with_services s.rows (declares st)) (changes s.rows st);
-  open_leg = said s st;
+  open_leg = leg_said s st;
   is_open = true;
 }
 
@@ -235,5 +235,5 @@ read_again m can_say bytes legs h short lines =
     (record { known = tt; room = λ e. absurd (cc e); empty = λ e. refl }) in
     let same : flat_map (leg_lines (services_of legs)) legs ≡ a.lines = ap (flat_map (leg_lines (services_of legs))) h.2 ∙ a.text in
     let are : AreShort a.lines = subst AreShort same lines in
-    let found : lines_of (canonical_text legs) ≡ a.lines = ap (λ ls. lines_of (ended ls)) same ∙ lines_again a.lines (a.no_end are) in
+    let found : lines_of (canonical_text legs) ≡ a.lines = ap (λ ls. lines_of (with_line_ends ls)) same ∙ lines_again a.lines (a.no_end are) in
     (legs_in a.after, (a.after, record { short = short; lines = subst (λ ls. Reads m first ls a.after) (sym found) (a.reads are) }, refl), a.legs ∙ sym (ap (map said_by) h.2))

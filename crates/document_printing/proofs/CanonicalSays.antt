@@ -15,7 +15,7 @@ use Rattle.svc_token.specs.Word.{IsName}
 use Rattle.svc_value.specs.declared.value.Value.{Value}
 use Rattle.svc_value.specs.declared.value.Value.TheVariants.{Int}
 use Rattle.svc_value.specs.Layout.{IsWithin}
-use Rattle.svc_value.specs.Printed.{printed}
+use Rattle.svc_value.specs.Printed.{printed_value}
 use Rattle.svc_plan.specs.declared.plan.ServiceLine.{ServiceLine}
 use Rattle.svc_plan.specs.declared.plan.StepEvent.{StepEvent}
 use Rattle.svc_plan.specs.declared.plan.StepEvent.TheVariants as event
@@ -83,7 +83,7 @@ IsStepSayable services (event.Turn n) = IsName (name_of services n)
 joined : {text parts : List ℕ} {tokens : List Token} → text ≡ parts → Cuts parts tokens → Cuts text tokens
 joined {tokens = tokens} same s = subst (λ text. Cuts text tokens) (sym same) s
 
-rank_cut : (rank : ℕ) → rank < 2 ^ 63 → (rest : List ℕ) (tokens : List Token) → Cuts (32 ∷ rest) tokens → Cuts (printed (Int (pos rank)) ++ 32 ∷ rest) (Number rank ∷ tokens)
+rank_cut : (rank : ℕ) → rank < 2 ^ 63 → (rest : List ℕ) (tokens : List Token) → Cuts (32 ∷ rest) tokens → Cuts (printed_value (Int (pos rank)) ++ 32 ∷ rest) (Number rank ∷ tokens)
 unfolding canon expression_text
 rank_cut rank fits rest tokens s = tree_cut [] (λ k l. absurd (omega arith)) (number (pos rank)) fits (32 ∷ rest) tokens refl s
 
@@ -92,7 +92,7 @@ module _ (services : List ServiceLine) where
   change_says n (change.Birth (definition.Input first)) name can =
       let line : ServiceLine = service_at services n in
       let value = value_said first can.proper can.within in
-      let text : change_text services n (change.Birth (definition.Input first)) ≡ codes "input " ++ (line.name ++ (codes " : " ++ (type_text line.ty ++ (codes " = " ++ printed first)))) = simp append_assoc in
+      let text : change_text services n (change.Birth (definition.Input first)) ≡ codes "input " ++ (line.name ++ (codes " : " ++ (type_text line.ty ++ (codes " = " ++ printed_value first)))) = simp append_assoc in
       spoken refl
       (joined text (input_word (name_cut name _ refl (colon_mark (type_cut line.ty (equals_mark value.1))))))
       (input (type_is line.ty) value.2)
@@ -100,13 +100,13 @@ module _ (services : List ServiceLine) where
       let line : ServiceLine = service_at services n in
       let body = formula_said _ formula.expr _ can.0.readable can.0.members in
       let text : change_text services n (change.Birth (definition.Derived formula))
-      ≡ codes "derived " ++ (line.name ++ (codes " : " ++ (type_text line.ty ++ (codes " rank " ++ (printed (Int (pos line.rank)) ++ (codes " = " ++ formula_text services formula)))))) = simp append_assoc in
+      ≡ codes "derived " ++ (line.name ++ (codes " : " ++ (type_text line.ty ++ (codes " rank " ++ (printed_value (Int (pos line.rank)) ++ (codes " = " ++ formula_text services formula)))))) = simp append_assoc in
       spoken refl
       (joined text (derived_word (name_cut name _ refl (colon_mark (type_cut line.ty (rank_word (rank_cut line.rank (omega (arith, can.1)) _ _ (equals_mark body.1))))))))
       (derived (type_is line.ty) body.2)
   change_says n (change.Set next) name can =
       let value = value_said next can.proper can.within in
-      let text : change_text services n (change.Set next) ≡ codes "set " ++ (name_of services n ++ (codes " = " ++ printed next)) = simp append_assoc in
+      let text : change_text services n (change.Set next) ≡ codes "set " ++ (name_of services n ++ (codes " = " ++ printed_value next)) = simp append_assoc in
       spoken refl (joined text (set_word (name_cut name _ refl (equals_mark value.1)))) (set value.2)
   change_says n (change.Add member) name can =
       let text : change_text services n (change.Add member) ≡ codes "add " ++ (name_of services n ++ (codes " " ++ name_of services member)) = simp append_assoc in

@@ -16,7 +16,7 @@ use Rattle.document_reading.specs.declared.statement.Statement.{Statement}
 use Rattle.document_reading.specs.declared.statement.Statement.TheVariants as say
 use Rattle.document_reading.specs.Document.{IsLine, AcceptsLine, Reads, line as one_more}
 use Rattle.document_reading.specs.Refusals.{is_unknown, refusal}
-use Rattle.document_reading.specs.State.{State, steps, next, number_of}
+use Rattle.document_reading.specs.State.{State, steps, next, service_named}
 use Rattle.document_printing.specs.Canonical.{name_of, step_text}
 use Rattle.document_printing.proofs.CanonicalBytes.{HasNoEnd}
 use Rattle.document_printing.proofs.CanonicalLines.{HaveNoEnd, step_line}
@@ -67,7 +67,7 @@ name_again rows more n k = known_name (lines_in rows ++ more) k.name n (known_gr
 found : (rows : List Row) (n : ℕ) (k : IsKnown rows n) → is_unknown rows k.name ≡ false
 found rows n k = ap (λ o. is_none o) (place_known rows k.name n k.known)
 
-number_again : (rows : List Row) (n : ℕ) (k : IsKnown rows n) → number_of rows k.name ≡ n
+number_again : (rows : List Row) (n : ℕ) (k : IsKnown rows n) → service_named rows k.name ≡ n
 number_again rows n k = ap (λ o. unwrap_or o 0) (place_known rows k.name n k.known)
 
 -- the statement of an event, by the names that are known

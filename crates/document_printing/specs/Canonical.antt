@@ -15,7 +15,7 @@ use Rattle.svc_plan.specs.declared.plan.StepEvent.{StepEvent}
 use Rattle.svc_plan.specs.declared.plan.StepLine.{StepLine}
 use Rattle.svc_plan.specs.declared.plan.StepEvent.TheVariants.{Do, Take, Turn}
 use Rattle.document_reading.specs.Document.{HasLegs}
-use Rattle.svc_value.specs.Printed.{printed}
+use Rattle.svc_value.specs.Printed.{printed_value}
 use Rattle.svc_value.specs.declared.value.Value.TheVariants as value
 use Rattle.svc_value.specs.declared.value.ValueType.{ValueType}
 use Rattle.svc_value.specs.declared.value.ValueType.TheVariants as type
@@ -59,11 +59,11 @@ formula_text services formula =
 
 -- the line of a change of service n, which for a birth is the declaration of the service
 abbrev pub change_text : List ServiceLine → ℕ → Change → List ℕ
-change_text services n (Birth (Input first)) = codes "input " ++ declared_text (service_at services n) ++ codes " = " ++ printed first
+change_text services n (Birth (Input first)) = codes "input " ++ declared_text (service_at services n) ++ codes " = " ++ printed_value first
 change_text services n (Birth (Derived formula)) =
-    codes "derived " ++ declared_text (service_at services n) ++ codes " rank " ++ printed (value.Int (pos (service_at services n).rank)) ++ codes " = "
+    codes "derived " ++ declared_text (service_at services n) ++ codes " rank " ++ printed_value (value.Int (pos (service_at services n).rank)) ++ codes " = "
     ++ formula_text services formula
-change_text services n (Set next) = codes "set " ++ name_of services n ++ codes " = " ++ printed next
+change_text services n (Set next) = codes "set " ++ name_of services n ++ codes " = " ++ printed_value next
 change_text services n (Add member) = codes "add " ++ name_of services n ++ codes " " ++ name_of services member
 change_text services n (Drop member) = codes "drop " ++ name_of services n ++ codes " " ++ name_of services member
 change_text services n (Define formula) = codes "define " ++ name_of services n ++ codes " = " ++ formula_text services formula
@@ -83,12 +83,12 @@ leg_lines services leg =
     ++ codes "settle" ∷ []
 
 -- lines, each ended by an LF
-abbrev pub ended : List (List ℕ) → List ℕ
-ended lines = flat_map (λ line. line ++ codes "\n") lines
+abbrev pub with_line_ends : List (List ℕ) → List ℕ
+with_line_ends lines = flat_map (λ line. line ++ codes "\n") lines
 
 -- the lines of all legs
 abbrev pub canonical_text : List Leg → List ℕ
-canonical_text legs = ended (flat_map (leg_lines (services_of legs)) legs)
+canonical_text legs = with_line_ends (flat_map (leg_lines (services_of legs)) legs)
 
 -- ---- what can be printed
 

@@ -5,10 +5,10 @@ ghost use Rattle.svc_plan.specs.declared.plan.Leg.{Leg as AnyLeg};
 ghost use Rattle.svc_plan.specs.declared.plan.Mode.{Mode};
 ghost use Rattle.svc_plan.specs.Rows.{AreLegsAfter};
 ghost use Rattle.document_reading.specs.Document.{HasLegs};
-ghost use Rattle.document_printing.specs.Canonical.{name_of, type_text, declared_text, over_text, formula_text, change_text, step_text, leg_lines, ended, canonical_text, IsPrintable, IsWithinLimits, AreReadAgain};
-ghost use Rattle.svc_value.specs.Printed.{printed};
+ghost use Rattle.document_printing.specs.Canonical.{name_of, type_text, declared_text, over_text, formula_text, change_text, step_text, leg_lines, with_line_ends, canonical_text, IsPrintable, IsWithinLimits, AreReadAgain};
+ghost use Rattle.svc_value.specs.Printed.{printed_value};
 
-use crate::services::{LentService, lend_services, name_of, names_of};
+use crate::services::{ServiceRef, lend_services, name_of, names_of};
 use std::alloc::Global;
 use svc_expr::print_expr;
 use svc_graph::{Change, Definition, Formula};
@@ -33,12 +33,12 @@ pub fn print_document(plan: &Plan, out: &mut Vec<u8>) -> Result<(), OutOfMemory>
 // Appends the lines of all legs.
 fn append_legs(
     alloc: Global,
-    services: &[LentService<'_>],
+    services: &[ServiceRef<'_>],
     legs: &[Leg],
     out: &mut Vec<u8>,
 ) -> Result<(), OutOfMemory>
     requires { All (λ leg. All (IsPrintable (length services.now)) leg.changes) legs.now }
-    ensures { OnOk result (out.new.items ≡ out.old.items ++ ended (flat_map (leg_lines services.now) legs.now)) }
+    ensures { OnOk result (out.new.items ≡ out.old.items ++ with_line_ends (flat_map (leg_lines services.now) legs.now)) }
 {
     for leg in legs {
         append_leg(alloc, services, leg, out)?;
@@ -49,12 +49,12 @@ fn append_legs(
 // Appends the lines of a leg.
 fn append_leg(
     alloc: Global,
-    services: &[LentService<'_>],
+    services: &[ServiceRef<'_>],
     leg: &Leg,
     out: &mut Vec<u8>,
 ) -> Result<(), OutOfMemory>
     requires { All (IsPrintable (length services.now)) leg.now.changes }
-    ensures { OnOk result (out.new.items ≡ out.old.items ++ ended (leg_lines services.now leg.now)) }
+    ensures { OnOk result (out.new.items ≡ out.old.items ++ with_line_ends (leg_lines services.now leg.now)) }
 {
     append_changes(alloc, services, leg.changes.as_slice(), out)?;
     append_steps(services, leg.steps.as_slice(), out)?;
@@ -65,12 +65,12 @@ fn append_leg(
 // Appends the lines of changes.
 fn append_changes(
     alloc: Global,
-    services: &[LentService<'_>],
+    services: &[ServiceRef<'_>],
     changes: &[PlanChange],
     out: &mut Vec<u8>,
 ) -> Result<(), OutOfMemory>
     requires { All (IsPrintable (length services.now)) changes.now }
-    ensures { OnOk result (out.new.items ≡ out.old.items ++ ended (map (λ change. change_text services.now change.id change.change) changes.now)) }
+    ensures { OnOk result (out.new.items ≡ out.old.items ++ with_line_ends (map (λ change. change_text services.now change.id change.change) changes.now)) }
 {
     for change in changes {
         append_change(alloc, services, change, out)?;
@@ -81,11 +81,11 @@ fn append_changes(
 
 // Appends step lines.
 fn append_steps(
-    services: &[LentService<'_>],
+    services: &[ServiceRef<'_>],
     steps: &[StepLine],
     out: &mut Vec<u8>,
 ) -> Result<(), OutOfMemory>
-    ensures { OnOk result (out.new.items ≡ out.old.items ++ ended (map (λ step. step_text services.now step.event) steps.now)) }
+    ensures { OnOk result (out.new.items ≡ out.old.items ++ with_line_ends (map (λ step. step_text services.now step.event) steps.now)) }
 {
     for step in steps {
         append_step(services, step.event, out)?;
@@ -96,7 +96,7 @@ fn append_steps(
 
 // Appends what a step line says.
 fn append_step(
-    services: &[LentService<'_>],
+    services: &[ServiceRef<'_>],
     event: StepEvent,
     out: &mut Vec<u8>,
 ) -> Result<(), OutOfMemory>
@@ -115,7 +115,7 @@ fn append_step(
 // Appends what the line of a change says.
 fn append_change(
     alloc: Global,
-    services: &[LentService<'_>],
+    services: &[ServiceRef<'_>],
     change: &PlanChange,
     out: &mut Vec<u8>,
 ) -> Result<(), OutOfMemory>
@@ -146,7 +146,7 @@ fn append_change(
 
 // Appends the declaration of an input.
 fn append_input(line: &ServiceLine, value: &Value, out: &mut Vec<u8>) -> Result<(), OutOfMemory>
-    ensures { OnOk result (out.new.items ≡ out.old.items ++ (codes "input " ++ declared_text line.now ++ codes " = " ++ printed value.now)) }
+    ensures { OnOk result (out.new.items ≡ out.old.items ++ (codes "input " ++ declared_text line.now ++ codes " = " ++ printed_value value.now)) }
 {
     out.extend_from_slice(b"input ")?;
     append_declared(line, out)?;
@@ -155,7 +155,7 @@ fn append_input(line: &ServiceLine, value: &Value, out: &mut Vec<u8>) -> Result<
 
 // Appends the declaration of a derived service up to its rank.
 fn append_derived(line: &ServiceLine, out: &mut Vec<u8>) -> Result<(), OutOfMemory>
-    ensures { OnOk result (out.new.items ≡ out.old.items ++ (codes "derived " ++ declared_text line.now ++ codes " rank " ++ printed (Value.Int (pos line.now.rank)))) }
+    ensures { OnOk result (out.new.items ≡ out.old.items ++ (codes "derived " ++ declared_text line.now ++ codes " rank " ++ printed_value (Value.Int (pos line.now.rank)))) }
 {
     out.extend_from_slice(b"derived ")?;
     append_declared(line, out)?;
@@ -185,7 +185,7 @@ fn type_text(ty: ValueType) -> &'static str
 
 // Appends `=` and a value.
 fn append_value(value: &Value, out: &mut Vec<u8>) -> Result<(), OutOfMemory>
-    ensures { OnOk result (out.new.items ≡ out.old.items ++ (codes " = " ++ printed value.now)) }
+    ensures { OnOk result (out.new.items ≡ out.old.items ++ (codes " = " ++ printed_value value.now)) }
 {
     out.extend_from_slice(b" = ")?;
     print_value(value, out)
@@ -194,7 +194,7 @@ fn append_value(value: &Value, out: &mut Vec<u8>) -> Result<(), OutOfMemory>
 // Appends `=`, an expression and its members.
 fn append_formula(
     alloc: Global,
-    services: &[LentService<'_>],
+    services: &[ServiceRef<'_>],
     formula: &Formula,
     out: &mut Vec<u8>,
 ) -> Result<(), OutOfMemory>
@@ -209,7 +209,7 @@ fn append_formula(
 
 // Appends members behind `over`, where there are any.
 fn append_over(
-    services: &[LentService<'_>],
+    services: &[ServiceRef<'_>],
     members: &[ServiceId],
     out: &mut Vec<u8>,
 ) -> Result<(), OutOfMemory>
@@ -228,7 +228,7 @@ fn append_over(
 // Appends a word, a name, a blank and another name.
 fn append_pair(
     word: &str,
-    services: &[LentService<'_>],
+    services: &[ServiceRef<'_>],
     reader: ServiceId,
     member: ServiceId,
     out: &mut Vec<u8>,
@@ -242,7 +242,7 @@ fn append_pair(
 // Appends a word and the name of a service.
 fn append_named(
     word: &str,
-    services: &[LentService<'_>],
+    services: &[ServiceRef<'_>],
     id: ServiceId,
     out: &mut Vec<u8>,
 ) -> Result<(), OutOfMemory>

@@ -9,11 +9,11 @@ use svc_value::{Name, Names, OutOfMemory, ServiceId};
 
 /// A declaration of a plan, lent. Contracts see the declaration.
 #[derive(Debug, Drop)]
-pub(crate) struct LentService<'a> {
+pub(crate) struct ServiceRef<'a> {
     line: &'a ServiceLine,
 }
 
-impl<'a> Model for LentService<'a> {
+impl<'a> Model for ServiceRef<'a> {
     ghost use Rattle.svc_plan.specs.declared.plan.ServiceLine.{ServiceLine};
 
     ghost Value = { ServiceLine };
@@ -21,12 +21,12 @@ impl<'a> Model for LentService<'a> {
     ghost view = { λ lent. lent.line.now };
 }
 
-impl<'a> LentService<'a> {
+impl<'a> ServiceRef<'a> {
     /// The declaration in this line.
     pub(crate) fn new(line: &'a ServiceLine) -> Self
         ensures { result ≡ line.now }
     {
-        LentService { line }
+        ServiceRef { line }
     }
 
     /// The declaration, lent as long as the plan is.
@@ -38,10 +38,7 @@ impl<'a> LentService<'a> {
 }
 
 /// The services that the legs declare.
-pub(crate) fn lend_services(
-    alloc: Global,
-    legs: &[Leg],
-) -> Result<Vec<LentService<'_>>, OutOfMemory>
+pub(crate) fn lend_services(alloc: Global, legs: &[Leg]) -> Result<Vec<ServiceRef<'_>>, OutOfMemory>
     ensures { IfOk result (λ services. services.items ≡ services_of legs.now) }
 {
     let mut services = Vec::new(alloc);
@@ -54,18 +51,18 @@ pub(crate) fn lend_services(
 // Appends the services that these lines declare.
 fn lend_more<'a>(
     lines: &'a [ServiceLine],
-    services: &mut Vec<LentService<'a>>,
+    services: &mut Vec<ServiceRef<'a>>,
 ) -> Result<(), OutOfMemory>
     ensures { OnOk result (services.new.items ≡ services.old.items ++ lines.now) }
 {
     for line in lines {
-        services.push(LentService::new(line))?;
+        services.push(ServiceRef::new(line))?;
     }
     Ok(())
 }
 
 /// The name of a service, none if it is not declared.
-pub(crate) fn name_of<'a>(services: &[LentService<'a>], id: ServiceId) -> &'a [u8]
+pub(crate) fn name_of<'a>(services: &[ServiceRef<'a>], id: ServiceId) -> &'a [u8]
     ensures { result.now ≡ name_of services.now id }
 {
     match services.get(usize::from(id.0)) {
@@ -77,7 +74,7 @@ pub(crate) fn name_of<'a>(services: &[LentService<'a>], id: ServiceId) -> &'a [u
 /// The names of services.
 pub(crate) fn names_of(
     alloc: Global,
-    services: &[LentService<'_>],
+    services: &[ServiceRef<'_>],
     ids: &[ServiceId],
 ) -> Result<Names, OutOfMemory>
     ensures { IfOk result (λ names. names ≡ map (name_of services.now) ids.now) }

@@ -13,9 +13,9 @@ use Rattle.svc_token.specs.declared.token.Token.{Token}
 use Rattle.svc_token.specs.declared.token.Token.TheVariants.{Keyword}
 use Rattle.document_reading.specs.declared.statement.Body.{Body}
 use Rattle.document_reading.specs.declared.statement.Body.TheVariants.{Formula}
-use Rattle.document_reading.specs.declared.stop.Stop.{Stop}
+use Rattle.document_reading.specs.declared.line_error.LineError.{LineError}
 use Rattle.document_reading.specs.Grammar.{AreMembers, IsOver, small, large, IsBody, alone, over}
-use Rattle.document_reading.specs.Reading.{is_over, over_at, Fails, Answers}
+use Rattle.document_reading.specs.Reading.{is_over, over_at, Fails, ParsesAs}
 use Rattle.document_reading.proofs.ResultLemmas.{fails_so, answers_so}
 use Rattle.document_reading.proofs.MemberLemmas.{one_members}
 
@@ -126,7 +126,7 @@ body_of tokens before (t ∷ behind) body f b p =
 
 -- the expression stands alone
 pub alone_is : (tokens before rest : List Token) (members : List (List ℕ)) → length rest < 1 → members ≡ [] → before ≡ take (over_at tokens) tokens → rest ≡ drop (over_at tokens) tokens
-    → (result : Result Body Stop) → Answers (IsOver members before) result → Answers (IsBody tokens) result
+    → (result : Result Body LineError) → ParsesAs (IsOver members before) result → ParsesAs (IsBody tokens) result
 alone_is tokens before (t ∷ behind) members none e f b result h = absurd (omega arith)
 alone_is tokens before [] members none e f b result h =
     answers_so (IsOver members before) (IsBody tokens)
@@ -135,7 +135,7 @@ alone_is tokens before [] members none e f b result h =
 
 -- the members stand behind
 pub over_is : (tokens before rest : List Token) (members : List (List ℕ)) → 0 < length rest → before ≡ take (over_at tokens) tokens → rest ≡ drop (over_at tokens) tokens
-    → AreMembers (take (length rest - 1) (drop 1 rest)) members → (result : Result Body Stop) → Answers (IsOver members before) result → Answers (IsBody tokens) result
+    → AreMembers (take (length rest - 1) (drop 1 rest)) members → (result : Result Body LineError) → ParsesAs (IsOver members before) result → ParsesAs (IsBody tokens) result
 over_is tokens before [] members some f b m result h = absurd (omega arith)
 over_is tokens before (t ∷ behind) members some f b m result h =
     let all : AreMembers behind members = subst (λ (l : List Token). AreMembers l members) (take_rest (t ∷ behind) 1) m in
@@ -145,7 +145,7 @@ over_is tokens before (t ∷ behind) members some f b m result h =
 
 -- what stands behind is no list of members
 pub no_members : (tokens before rest : List Token) → 0 < length rest → before ≡ take (over_at tokens) tokens → rest ≡ drop (over_at tokens) tokens
-    → (stop : Stop) → Fails (AreMembers (take (length rest - 1) (drop 1 rest))) stop → Fails (IsBody tokens) stop
+    → (stop : LineError) → Fails (AreMembers (take (length rest - 1) (drop 1 rest))) stop → Fails (IsBody tokens) stop
 no_members tokens before [] some f b stop h = absurd (omega arith)
 no_members tokens before (t ∷ behind) some f b stop h =
     fails_so (AreMembers (take (length (t ∷ behind) - 1) (drop 1 (t ∷ behind)))) (IsBody tokens)

@@ -45,7 +45,7 @@ names = refl
 line_count : after.lines ≡ 5
 line_count = refl
 
--- refusals, with the least code
+-- refusals, with the lowest-numbered code
 declared_twice : refusal Plain after (Input (codes "t") type.Int (Words [])) ≡ Some E05
 declared_twice = refl
 

@@ -8,21 +8,21 @@ use Rattle.svc_graph.specs.declared.definition.Change.{Change}
 use Rattle.svc_graph.specs.declared.definition.Change.TheVariants as change
 use Rattle.svc_graph.specs.declared.definition.Definition.TheVariants as definition
 use Rattle.svc_graph.specs.Accepting.{IsChangeOf}
-use Rattle.svc_graph.specs.History.{Row, history_of, present, roster_of, place_of}
+use Rattle.svc_graph.specs.History.{Row, history_of, present, roster_of, find_service}
 use Rattle.svc_graph.specs.Refusals.{names_unknown, names_high, has_wrong_type, has_too_many, sets_derived, changes_input, brings_again, drops_other, refusal_of}
-use Rattle.svc_graph.proofs.Apart.{or_left, or_right}
+use Rattle.svc_graph.proofs.AreDistinct.{or_left, or_right}
 use Rattle.svc_plan.specs.declared.plan.Mode.{Mode}
 use Rattle.svc_plan.specs.declared.plan.ServiceLine.{ServiceLine}
-use Rattle.svc_plan.specs.Rows.{with_services, IsAcceptedAfter, AreAcceptedAfter}
+use Rattle.svc_plan.specs.Rows.{with_services, AcceptsChange, AreAcceptedAfter}
 use Rattle.document_reading.specs.declared.refusal.Code.{Code}
 use Rattle.document_reading.specs.declared.refusal.Code.TheVariants.{E05, E06, E07, E08, E09, E10, E11, E12, E13, E14, E15, E16, E17, E18, E19}
 use Rattle.document_reading.specs.declared.statement.Body.TheVariants.{Formula, TooLarge}
 use Rattle.document_reading.specs.declared.statement.Statement.{Statement}
 use Rattle.document_reading.specs.declared.statement.Statement.TheVariants.{Silence, Input, Derived, Set, Add, Drop, Define, Settle, Do, Take, Turn}
-use Rattle.document_reading.specs.Reader.{code_or, code_where, full_code, change_code, name_code, with_service}
+use Rattle.document_reading.specs.Parser.{code_or, code_where, full_code, change_code, name_code, with_service}
 use Rattle.document_reading.specs.Refusals.{is_unknown, names_in, is_taken, is_past_services, has_wrong_rank, is_large, is_past_changes, is_past_legs, holds, refusal}
 use Rattle.document_reading.specs.Sound.{IsSound, IsProperStatement}
-use Rattle.document_reading.specs.State.{State, declares, changes, number_of, formula_of}
+use Rattle.document_reading.specs.State.{State, declares, changes, service_named, formula_of}
 use Rattle.document_reading.proofs.FormLemmas.{set_form, add_form, drop_form, define_form, input_form, derived_form}
 use Rattle.document_reading.proofs.RefusalLemmas.{error_of, or_false, set_refusal, add_refusal, drop_refusal, define_refusal, input_refusal, derived_refusal}
 
@@ -79,12 +79,12 @@ book_accepts state n change h =
     no_error (names_unknown kinds n change) (names_high kinds n change) (has_wrong_type kinds n last change) (has_too_many kinds n last change) (sets_derived kinds n change)
     (changes_input kinds n change) (brings_again kinds n last change) (drops_other kinds n last change) (full_code (length state.open_leg.changes) (state.before + length state.ended)) h
 
-accepts : (state : State) (n : ℕ) (change : Change) → IsChangeOf state.rows n change → change_code state n change ≡ None → IsAcceptedAfter state.rows n change
+accepts : (state : State) (n : ℕ) (change : Change) → IsChangeOf state.rows n change → change_code state n change ≡ None → AcceptsChange state.rows n change
 accepts state n change form none = record { form = form; passes = book_accepts state n change none }
 
 -- the same rows, with no service more
-alone : (rows : List Row) (n : ℕ) (change : Change) → IsAcceptedAfter rows n change → AreAcceptedAfter (with_services rows []) (record { id = n; change = change } ∷ [])
-alone rows n change h = (subst (λ (rs : List Row). IsAcceptedAfter rs n change) (sym (append-nil rows)) h, tt)
+alone : (rows : List Row) (n : ℕ) (change : Change) → AcceptsChange rows n change → AreAcceptedAfter (with_services rows []) (record { id = n; change = change } ∷ [])
+alone rows n change h = (subst (λ (rs : List Row). AcceptsChange rs n change) (sym (append-nil rows)) h, tt)
 
 first_known : (rows : List Row) (name : List ℕ) (names : List (List ℕ)) → list_any (is_unknown rows) (name ∷ names) ≡ false → is_unknown rows name ≡ false
 first_known rows name names h = or_left (is_unknown rows name) (list_any (is_unknown rows) names) h
@@ -105,7 +105,7 @@ pub changes_accepted : (mode : Mode) (state : State) (s : Statement) → IsSound
     → AreAcceptedAfter (with_services state.rows (declares s)) (changes state.rows s)
 changes_accepted mode state (Input name ty value) sound proper none =
     let f = fits_of mode state (Input name ty value) none in
-    let new : name_code state.rows name ≡ None = free_name (is_some (place_of state.rows name)) (nat_le 64 (length state.rows)) (sym (or_false (is_some (place_of state.rows name))) ∙ f.new) f.room in
+    let new : name_code state.rows name ≡ None = free_name (is_some (find_service state.rows name)) (nat_le 64 (length state.rows)) (sym (or_false (is_some (find_service state.rows name))) ∙ f.new) f.room in
     let line : ServiceLine = record { name = name; rank = 0; ty = ty } in (
       accepts (with_service state line) (length state.rows) (change.Birth (definition.Input value)) (input_form state.rows name ty value proper)
           (sym (input_refusal mode state name ty value new) ∙ none),
@@ -113,7 +113,7 @@ changes_accepted mode state (Input name ty value) sound proper none =
     )
 changes_accepted mode state (Derived name ty rank (Formula formula)) sound proper none =
     let f = fits_of mode state (Derived name ty rank (Formula formula)) none in
-    let new : name_code state.rows name ≡ None = free_name (is_some (place_of state.rows name)) (nat_le 64 (length state.rows)) (sym (or_false (is_some (place_of state.rows name))) ∙ f.new) f.room in
+    let new : name_code state.rows name ≡ None = free_name (is_some (find_service state.rows name)) (nat_le 64 (length state.rows)) (sym (or_false (is_some (find_service state.rows name))) ∙ f.new) f.room in
     let line : ServiceLine = record { name = name; rank = rank; ty = ty } in (
       accepts (with_service state line) (length state.rows) (change.Birth (definition.Derived (formula_of state.rows formula)))
           (derived_form state.rows name ty rank formula (some_rank rank f.rank) proper f.known)
@@ -123,28 +123,28 @@ changes_accepted mode state (Derived name ty rank (Formula formula)) sound prope
 changes_accepted mode state (Derived name ty rank TooLarge) sound proper none = tt
 changes_accepted mode state (Set name value) sound proper none =
     let known = first_known state.rows name [] (fits_of mode state (Set name value) none).known in
-    alone state.rows (number_of state.rows name) (change.Set value)
-    (accepts state (number_of state.rows name) (change.Set value) (set_form state name value sound known proper) (sym (set_refusal mode state name value known) ∙ none))
+    alone state.rows (service_named state.rows name) (change.Set value)
+    (accepts state (service_named state.rows name) (change.Set value) (set_form state name value sound known proper) (sym (set_refusal mode state name value known) ∙ none))
 changes_accepted mode state (Add reader member) sound proper none =
     let names = (fits_of mode state (Add reader member) none).known in
     let known = first_known state.rows reader (member ∷ []) names in
     let also = first_known state.rows member [] (rest_known state.rows reader (member ∷ []) names) in
-    alone state.rows (number_of state.rows reader) (change.Add (number_of state.rows member))
-    (accepts state (number_of state.rows reader) (change.Add (number_of state.rows member)) (add_form state reader member sound known)
+    alone state.rows (service_named state.rows reader) (change.Add (service_named state.rows member))
+    (accepts state (service_named state.rows reader) (change.Add (service_named state.rows member)) (add_form state reader member sound known)
     (sym (add_refusal mode state reader member known also) ∙ none))
 changes_accepted mode state (Drop reader member) sound proper none =
     let names = (fits_of mode state (Drop reader member) none).known in
     let known = first_known state.rows reader (member ∷ []) names in
     let also = first_known state.rows member [] (rest_known state.rows reader (member ∷ []) names) in
-    alone state.rows (number_of state.rows reader) (change.Drop (number_of state.rows member))
-    (accepts state (number_of state.rows reader) (change.Drop (number_of state.rows member)) (drop_form state reader member sound known)
+    alone state.rows (service_named state.rows reader) (change.Drop (service_named state.rows member))
+    (accepts state (service_named state.rows reader) (change.Drop (service_named state.rows member)) (drop_form state reader member sound known)
     (sym (drop_refusal mode state reader member known also) ∙ none))
 changes_accepted mode state (Define name (Formula formula)) sound proper none =
     let names = (fits_of mode state (Define name (Formula formula)) none).known in
     let known = first_known state.rows name (formula.names ++ formula.members) names in
     let rest = rest_known state.rows name (formula.names ++ formula.members) names in
-    alone state.rows (number_of state.rows name) (change.Define (formula_of state.rows formula))
-    (accepts state (number_of state.rows name) (change.Define (formula_of state.rows formula)) (define_form state name formula sound known proper rest)
+    alone state.rows (service_named state.rows name) (change.Define (formula_of state.rows formula))
+    (accepts state (service_named state.rows name) (change.Define (formula_of state.rows formula)) (define_form state name formula sound known proper rest)
     (sym (define_refusal mode state name formula known rest) ∙ none))
 changes_accepted mode state (Define name TooLarge) sound proper none = tt
 changes_accepted mode state Silence sound proper none = tt

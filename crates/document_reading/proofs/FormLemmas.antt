@@ -15,44 +15,44 @@ use Rattle.svc_plan.proofs.RowLemmas.{row_at-last, last_within}
 use Rattle.document_reading.specs.declared.statement.NamedFormula.{NamedFormula}
 use Rattle.document_reading.specs.Refusals.{is_unknown}
 use Rattle.document_reading.specs.Sound.{IsNamedFormula, IsSound}
-use Rattle.document_reading.specs.State.{State, number_of, formula_of}
+use Rattle.document_reading.specs.State.{State, service_named, formula_of}
 use Rattle.document_reading.proofs.NumberLemmas.{named, apart_numbers, any-append}
 
 written : (rows : List Row) (formula : NamedFormula) → IsNamedFormula formula → list_any (is_unknown rows) (formula.names ++ formula.members) ≡ false
     → IsWritten (formula_of rows formula)
 written rows formula h known = record {
   small = h.small;
-  names = length-map formula.names (number_of rows) ∙ h.count;
+  names = length-map formula.names (service_named rows) ∙ h.count;
   apart = apart_numbers rows formula.names (any-append (is_unknown rows) formula.names formula.members known).0 h.differ;
 }
 
 -- a change that is no birth, of a declared name
 changes_form : (state : State) (name : List ℕ) (change : Change) → IsSound state → is_unknown state.rows name ≡ false → is_birth change ≡ false
-    → HasForm (row_at state.rows (number_of state.rows name)).rank change → IsChangeOf state.rows (number_of state.rows name) change
+    → HasForm (row_at state.rows (service_named state.rows name)).rank change → IsChangeOf state.rows (service_named state.rows name) change
 changes_form state name change sound known other form =
     let within = (named state.rows name known).within in
     record {
       declared = within;
-      first = (λ is. absurd (cc), λ none. absurd (sound.born (number_of state.rows name) within none));
+      first = (λ is. absurd (cc), λ none. absurd (sound.born (service_named state.rows name) within none));
       form = form;
-      clock = sound.clocks (number_of state.rows name);
+      clock = sound.clocks (service_named state.rows name);
     }
 
 pub set_form : (state : State) (name : List ℕ) (value : Value) → IsSound state → is_unknown state.rows name ≡ false → IsProper value
-    → IsChangeOf state.rows (number_of state.rows name) (Set value)
+    → IsChangeOf state.rows (service_named state.rows name) (Set value)
 set_form state name value sound known proper = changes_form state name (Set value) sound known refl proper
 
 pub add_form : (state : State) (name member : List ℕ) → IsSound state → is_unknown state.rows name ≡ false
-    → IsChangeOf state.rows (number_of state.rows name) (Add (number_of state.rows member))
-add_form state name member sound known = changes_form state name (Add (number_of state.rows member)) sound known refl tt
+    → IsChangeOf state.rows (service_named state.rows name) (Add (service_named state.rows member))
+add_form state name member sound known = changes_form state name (Add (service_named state.rows member)) sound known refl tt
 
 pub drop_form : (state : State) (name member : List ℕ) → IsSound state → is_unknown state.rows name ≡ false
-    → IsChangeOf state.rows (number_of state.rows name) (Drop (number_of state.rows member))
-drop_form state name member sound known = changes_form state name (Drop (number_of state.rows member)) sound known refl tt
+    → IsChangeOf state.rows (service_named state.rows name) (Drop (service_named state.rows member))
+drop_form state name member sound known = changes_form state name (Drop (service_named state.rows member)) sound known refl tt
 
 pub define_form : (state : State) (name : List ℕ) (formula : NamedFormula) → IsSound state → is_unknown state.rows name ≡ false → IsNamedFormula formula
     → list_any (is_unknown state.rows) (formula.names ++ formula.members) ≡ false
-    → IsChangeOf state.rows (number_of state.rows name) (Define (formula_of state.rows formula))
+    → IsChangeOf state.rows (service_named state.rows name) (Define (formula_of state.rows formula))
 define_form state name formula sound known proper names =
     changes_form state name (Define (formula_of state.rows formula)) sound known refl (written state.rows formula proper names)
 

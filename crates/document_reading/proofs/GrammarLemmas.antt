@@ -5,9 +5,9 @@ use Rattle.document_reading.specs.declared.head.Head.{Head}
 use Rattle.document_reading.specs.declared.head.Head.TheVariants as head
 use Rattle.document_reading.specs.declared.statement.Statement.{Statement}
 use Rattle.document_reading.specs.declared.statement.Statement.TheVariants.{Input, Derived, Set, Define}
-use Rattle.document_reading.specs.declared.stop.Stop.{Stop}
+use Rattle.document_reading.specs.declared.line_error.LineError.{LineError}
 use Rattle.document_reading.specs.Grammar.{Means}
-use Rattle.document_reading.specs.Reading.{head_at, Fills, Answers}
+use Rattle.document_reading.specs.Reading.{head_at, Fills, ParsesAs}
 use Rattle.document_reading.proofs.ResultLemmas.{answers_so}
 use Rattle.document_reading.proofs.BodyLemmas.{one_body}
 use Rattle.document_reading.proofs.HeadLemmas.{Front, front_is, head_sound, head_complete}
@@ -17,7 +17,7 @@ use Rattle.document_reading.proofs.LiteralLemmas.{one_literal}
 head_fills : (tokens : List Token) (x : Front) → head_at tokens ≡ Some x → (s : Statement) → Means tokens s → Fills x.0 x.1 s
 head_fills tokens x h s m = let k = head_complete m in subst (λ (y : Front). Fills y.0 y.1 s) (front_is k.front x (sym k.stands ∙ h)) k.fills
 
-pub line_answers : (tokens : List Token) (x : Front) → head_at tokens ≡ Some x → (result : Result Statement Stop) → Answers (Fills x.0 x.1) result → Answers (Means tokens) result
+pub line_answers : (tokens : List Token) (x : Front) → head_at tokens ≡ Some x → (result : Result Statement LineError) → ParsesAs (Fills x.0 x.1) result → ParsesAs (Means tokens) result
 line_answers tokens x h result a = answers_so (Fills x.0 x.1) (Means tokens) (head_sound tokens x h) (head_fills tokens x h) result a
 
 none_some : (o : Option Front) (x : Front) → o ≡ None → o ≡ Some x → ⊥

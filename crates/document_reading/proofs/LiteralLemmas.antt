@@ -26,7 +26,7 @@ negative_sound : (n : ℕ) (v : Value) → r.negative n ≡ Some v → IsLiteral
 unfolding r.negative
 negative_sound n v h = let k = chosen (nat_le n (2 ^ 63)) (Int (neg_ℤ (pos n))) v h in subst (IsLiteral (Dash ∷ Number n ∷ [])) k.1 (negative (leb-true n (2 ^ 63) k.0))
 
-pub number_sound : (tokens : List Token) (v : Value) → r.number_of tokens ≡ Some v → IsLiteral tokens v
+pub number_sound : (tokens : List Token) (v : Value) → r.literal_value tokens ≡ Some v → IsLiteral tokens v
 number_sound (Number n ∷ []) v h = whole_sound n v h
 number_sound (Dash ∷ Number n ∷ []) v h = negative_sound n v h
 number_sound tokens v h = absurd (cc)
@@ -54,7 +54,7 @@ no_quoted raw h v (quoted {text = text} q) = h (Words text, q)
 none_some : (o : Option Value) (v : Value) → o ≡ None → o ≡ Some v → ⊥
 none_some o v n h = cc
 
-pub no_literal : (tokens : List Token) → r.quoted_of tokens ≡ None → r.number_of tokens ≡ None → (v : Value) → IsLiteral tokens v → ⊥
+pub no_literal : (tokens : List Token) → r.quoted_of tokens ≡ None → r.literal_value tokens ≡ None → (v : Value) → IsLiteral tokens v → ⊥
 no_literal tokens q n v (whole {n = k} h) = none_some (r.whole k) (Int (pos k)) n (whole_complete k h)
 no_literal tokens q n v (negative {n = k} h) = none_some (r.negative k) (Int (neg_ℤ (pos k))) n (negative_complete k h)
 no_literal tokens q n v (quoted h) = cc

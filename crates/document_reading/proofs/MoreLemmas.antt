@@ -4,11 +4,11 @@ use Rattle.std.specs.Prelude.{map, ◌==◌, ◌||◌, ◌&&◌, nat_le, nat_lt,
 use Rattle.std.specs.List.{list_any}
 use Rattle.std.proofs.lemmas.Bool.{leb-false, lt-leb}
 use Rattle.std.proofs.lemmas.List.{length-map, map-append}
-use Rattle.propagation.specs.Words.{Has, is_among}
+use Rattle.propagation.specs.Lists.{Has, is_among}
 use Rattle.propagation.proofs.Lists.{Has-append_cases, Has-append_left, Has-append_right}
 use Rattle.svc_expr.specs.Tree.{tree_of}
 use Rattle.svc_expr.specs.Types.{takes_numbers, type_in, is_same}
-use Rattle.svc_graph.proofs.Apart.{or_left, or_right, Has-list_any}
+use Rattle.svc_graph.proofs.AreDistinct.{or_left, or_right, Has-list_any}
 use Rattle.svc_graph.specs.Accepting.{HasForm}
 use Rattle.svc_graph.specs.declared.definition.Change.{Change}
 use Rattle.svc_graph.specs.declared.definition.Change.TheVariants.{Birth, Set, Add, Drop, Define}
@@ -18,12 +18,12 @@ use Rattle.svc_graph.specs.declared.definition.Formula.{Formula}
 use Rattle.svc_graph.specs.declared.errors.ChangeError.{ChangeError}
 use Rattle.svc_graph.specs.declared.errors.ChangeError.TheVariants.{Unknown}
 use Rattle.svc_graph.specs.declared.kind.Kind.{Kind}
-use Rattle.svc_graph.specs.History.{Row, changed, history_of, kind_of, present, roster_of, row_at}
-use Rattle.svc_graph.specs.Refusals.{kind_at, is_unknown, any_named, names_unknown, is_high, names_high, is_text, is_type, is_ill_typed, has_wrong_type, has_too_many, is_large, sets_derived, changes_input, brings_again, repeats, drops_other, last_dependencies, last_members, last_takes_numbers, refused}
+use Rattle.svc_graph.specs.History.{Row, rows_after_change, history_of, kind_of, present, roster_of, row_at}
+use Rattle.svc_graph.specs.Refusals.{kind_at, is_unknown, any_named, names_unknown, is_high, names_high, is_text, is_type, is_ill_typed, has_wrong_type, has_too_many, is_large, sets_derived, changes_input, brings_again, repeats, drops_other, last_dependencies, last_members, last_takes_numbers, first_error}
 use Rattle.svc_value.specs.Value.{has_type}
 use Rattle.svc_value.specs.declared.value.ValueType.TheVariants.{Text}
 use Rattle.svc_plan.specs.declared.plan.PlanChange.{PlanChange}
-use Rattle.svc_plan.specs.Rows.{with_changes, IsAcceptedAfter, AreAcceptedAfter}
+use Rattle.svc_plan.specs.Rows.{with_changes, AcceptsChange, AreAcceptedAfter}
 use Rattle.svc_plan.proofs.RowLemmas.{changed-append, row_at-append, long-append}
 use Rattle.document_reading.proofs.NumberLemmas.{any_none}
 use Rattle.document_reading.proofs.RefusalLemmas.{error_of}
@@ -121,7 +121,7 @@ module _ (kinds others : List Kind) (n : ℕ) (last : Option Definition) (here :
   drop_same (Define formula) = refl
 
   refused_same : (change : Change) → ((p : ℕ) → Has (named change) p → kind_at others p ≡ kind_at kinds p) → names_unknown others n change ≡ names_unknown kinds n change
-      → refused others n last change ≡ refused kinds n last change
+      → first_error others n last change ≡ first_error kinds n last change
   refused_same change h known =
       λ i. error_of (known i) (high_same change h i) (type_same change h i) (many_same change i) (set_same change i) (input_same change i) (again_same change i) (drop_same change i)
 
@@ -167,7 +167,7 @@ module _ (kinds more : List Kind) where
   known_more n (Define formula) h = named_none (is_unknown (kinds ++ more)) formula (λ p has. unknown_more p (no_named (is_unknown kinds) formula h p has))
 
   refused_more : (n : ℕ) (last : Option Definition) (change : Change) → n < length kinds → names_unknown kinds n change ≡ false
-      → refused (kinds ++ more) n last change ≡ refused kinds n last change
+      → first_error (kinds ++ more) n last change ≡ first_error kinds n last change
   refused_more n last change within h =
       refused_same kinds (kinds ++ more) n last (kind_more kinds more n within) change (λ p has. kind_more kinds more p (all_known kinds n change h p has))
       (known_more n change h ∙ sym h)
@@ -177,7 +177,7 @@ no_unknown true rest h = absurd (cc)
 no_unknown false rest h = refl
 
 module _ (rows more : List Row) where
-  more_accepted : (n : ℕ) (change : Change) → IsAcceptedAfter rows n change → IsAcceptedAfter (rows ++ more) n change
+  more_accepted : (n : ℕ) (change : Change) → AcceptsChange rows n change → AcceptsChange (rows ++ more) n change
   more_accepted n change h =
       let at = row_at-append rows more n h.form.declared in
       let history : history_of (rows ++ more) n ≡ history_of rows n = ap (λ (row : Row). row.history) at in
@@ -191,7 +191,7 @@ module _ (rows more : List Row) where
           clock = subst (λ (ds : List Definition). length ds < 1024000) (sym history) h.form.clock;
         };
         passes =
-            (λ i. refused (map-append kind_of rows more i) n (present (history i)) change)
+            (λ i. first_error (map-append kind_of rows more i) n (present (history i)) change)
             ∙ refused_more (roster_of rows) (roster_of more) n (present (history_of rows n)) change (subst (λ (k : ℕ). n < k) (sym (length-map rows kind_of)) h.form.declared) known
             ∙ h.passes;
       }
@@ -200,21 +200,21 @@ pub accepted-more : (rows more : List Row) (changes : List PlanChange) → AreAc
 accepted-more rows more [] h = tt
 accepted-more rows more (c ∷ changes) h = (
   more_accepted rows more c.id c.change h.0,
-  subst (λ (rs : List Row). AreAcceptedAfter rs changes) (sym (changed-append rows more c.id c.change h.0.form.declared)) (accepted-more (changed rows c.id c.change) more changes h.1),
+  subst (λ (rs : List Row). AreAcceptedAfter rs changes) (sym (changed-append rows more c.id c.change h.0.form.declared)) (accepted-more (rows_after_change rows c.id c.change) more changes h.1),
 )
 
 pub with_changes-more : (rows more : List Row) (changes : List PlanChange) → AreAcceptedAfter rows changes → with_changes (rows ++ more) changes ≡ with_changes rows changes ++ more
 with_changes-more rows more [] h = refl
 with_changes-more rows more (c ∷ changes) h =
     ap (λ (rs : List Row). with_changes rs changes) (changed-append rows more c.id c.change h.0.form.declared)
-    ∙ with_changes-more (changed rows c.id c.change) more changes h.1
+    ∙ with_changes-more (rows_after_change rows c.id c.change) more changes h.1
 
 -- ---- more changes behind
 
 pub with_changes-append : (rows : List Row) (front behind : List PlanChange) → with_changes rows (front ++ behind) ≡ with_changes (with_changes rows front) behind
 with_changes-append rows [] behind = refl
-with_changes-append rows (c ∷ front) behind = with_changes-append (changed rows c.id c.change) front behind
+with_changes-append rows (c ∷ front) behind = with_changes-append (rows_after_change rows c.id c.change) front behind
 
 pub accepted-append : (rows : List Row) (front behind : List PlanChange) → AreAcceptedAfter rows front → AreAcceptedAfter (with_changes rows front) behind → AreAcceptedAfter rows (front ++ behind)
 accepted-append rows [] behind h k = k
-accepted-append rows (c ∷ front) behind h k = (h.0, accepted-append (changed rows c.id c.change) front behind h.1 k)
+accepted-append rows (c ∷ front) behind h k = (h.0, accepted-append (rows_after_change rows c.id c.change) front behind h.1 k)

@@ -7,11 +7,11 @@ use Rattle.std.proofs.lemmas.Bool.{lt-leb, le-ltb, ne_eqb}
 use Rattle.std.proofs.lemmas.List.{length-map}
 use Rattle.std.proofs.lemmas.List.Quantifiers.{position-Some}
 use Rattle.std.proofs.lemmas.Slice.Eq.{bytes_eq-Decides}
-use Rattle.propagation.specs.Words.{Apart, Has, is_among}
+use Rattle.propagation.specs.Lists.{AreDistinct, Has, is_among}
 use Rattle.propagation.proofs.Lists.{Has-append_left, Has-append_right}
 use Rattle.svc_expr.specs.Tree.{tree_of}
 use Rattle.svc_expr.specs.Types.{takes_numbers, is_same}
-use Rattle.svc_graph.proofs.Apart.{Apart-right, Apart-disjoint}
+use Rattle.svc_graph.proofs.AreDistinct.{AreDistinct-right, AreDistinct-disjoint}
 use Rattle.svc_graph.proofs.Changed.{kind_at-roster}
 use Rattle.svc_graph.specs.Accepting.{IsChangeOf, HasForm}
 use Rattle.svc_expr.specs.Names.{Differ}
@@ -22,11 +22,11 @@ use Rattle.svc_graph.specs.declared.definition.Definition.{Definition}
 use Rattle.svc_graph.specs.declared.definition.Definition.TheVariants.{Input, Derived}
 use Rattle.svc_graph.specs.declared.definition.Formula.{Formula}
 use Rattle.svc_graph.specs.declared.kind.Kind.{Kind}
-use Rattle.svc_graph.specs.History.{Row, changed, declared_row, history_of, kind_of, names_in, place_of, present, roster_of, row_at}
-use Rattle.svc_graph.specs.Refusals.{kind_at, any_named, is_unknown, is_high, is_text, is_type, is_ill_typed, is_large, repeats, refused, refusal_of}
+use Rattle.svc_graph.specs.History.{Row, rows_after_change, declared_row, history_of, kind_of, names_in, find_service, present, roster_of, row_at}
+use Rattle.svc_graph.specs.Refusals.{kind_at, any_named, is_unknown, is_high, is_text, is_type, is_ill_typed, is_large, repeats, first_error, refusal_of}
 use Rattle.svc_value.specs.declared.value.ValueType.{ValueType}
 use Rattle.svc_value.specs.declared.value.ValueType.TheVariants as type
-use Rattle.svc_plan.specs.Rows.{IsAcceptedAfter, present_rows}
+use Rattle.svc_plan.specs.Rows.{AcceptsChange, present_rows}
 use Rattle.document_reading.specs.Present.{bare_rows, half_present}
 use Rattle.document_reading.specs.Sound.{IsStart}
 use Rattle.document_reading.specs.State.{start}
@@ -72,13 +72,13 @@ names_apart (row ∷ rows) i zero d h k e = absurd (omega arith)
 names_apart (row ∷ rows) zero (suc n) d h k e = d.0 (subst (Has (names_in rows)) e (has_name rows n (omega arith)))
 names_apart (row ∷ rows) (suc i) (suc n) d h k e = names_apart rows i n d.1 (omega arith) (omega arith) e
 
-pub new_name : (rows : List Row) (n : ℕ) → IsBook rows → n < length rows → place_of (bare_rows (take n rows)) (row_at rows n).name ≡ None
-new_name rows n b h = by (place_of (bare_rows (take n rows)) (row_at rows n).name) refl
+pub new_name : (rows : List Row) (n : ℕ) → IsBook rows → n < length rows → find_service (bare_rows (take n rows)) (row_at rows n).name ≡ None
+new_name rows n b h = by (find_service (bare_rows (take n rows)) (row_at rows n).name) refl
   where
     before : List (List ℕ)
     before = names_in (bare_rows (take n rows))
 
-    by : (found : Option ℕ) → place_of (bare_rows (take n rows)) (row_at rows n).name ≡ found → place_of (bare_rows (take n rows)) (row_at rows n).name ≡ None
+    by : (found : Option ℕ) → find_service (bare_rows (take n rows)) (row_at rows n).name ≡ found → find_service (bare_rows (take n rows)) (row_at rows n).name ≡ None
     by None e = e
     by (Some i) e =
         let at = position-Some (bytes_eq (row_at rows n).name) before i [] e in
@@ -88,12 +88,12 @@ new_name rows n b h = by (place_of (bare_rows (take n rows)) (row_at rows n).nam
 
 -- ---- births
 
-half_suc : (rows : List Row) (n : ℕ) (d : Definition) → n < length rows → present (history_of rows n) ≡ Some d → changed (half_present n rows) n (Birth d) ≡ half_present (suc n) rows
+half_suc : (rows : List Row) (n : ℕ) (d : Definition) → n < length rows → present (history_of rows n) ≡ Some d → rows_after_change (half_present n rows) n (Birth d) ≡ half_present (suc n) rows
 half_suc [] n d h e = absurd (omega arith)
 half_suc (row ∷ rows) zero d h e = λ i. record row { history = option_to_list (sym e i) } ∷ bare_rows rows
 half_suc (row ∷ rows) (suc n) d h e = ap (λ (rs : List Row). record row { history = option_to_list (present row.history) } ∷ rs) (half_suc rows n d (omega arith) e)
 
-pub half_changed : (rows : List Row) (n : ℕ) (d : Definition) → n < length rows → present (history_of rows n) ≡ Some d → changed (half_present n rows) n (Birth d) ≡ half_present (n + 1) rows
+pub half_changed : (rows : List Row) (n : ℕ) (d : Definition) → n < length rows → present (history_of rows n) ≡ Some d → rows_after_change (half_present n rows) n (Birth d) ≡ half_present (n + 1) rows
 half_changed rows n d h e = half_suc rows n d h e ∙ ap (λ (k : ℕ). half_present k rows) (sym (next_is n))
 
 pub half_all : (rows : List Row) (n : ℕ) → n ≡ length rows → half_present n rows ≡ present_rows rows
@@ -132,7 +132,7 @@ not_among : (ps : List ℕ) (q : ℕ) → (Has ps q → ⊥) → is_among ps q �
 not_among [] q h = refl
 not_among (p ∷ ps) q h = (λ i. if ne_eqb p q (λ e. h (inl e)) i then true else is_among ps q) ∙ not_among ps q (λ has. h (inr has))
 
-no_repeats : (names members : List ℕ) → Apart members → ((q : ℕ) → Has names q → Has members q → ⊥) → repeats names members ≡ false
+no_repeats : (names members : List ℕ) → AreDistinct members → ((q : ℕ) → Has names q → Has members q → ⊥) → repeats names members ≡ false
 no_repeats names [] a h = refl
 no_repeats names (m ∷ ms) a h =
     λ i. (not_among names m (λ has. h m has (inl refl)) i || not_among ms m a.0 i) || no_repeats names ms a.1 (λ q left right. h q left (inr right)) i
@@ -168,9 +168,9 @@ module _ (kinds : List Kind) (n : ℕ) (formula : Formula) (f : IsFormulaOf kind
   few = let l = f.few in le-ltb 16 (length formula.fixed + length formula.members) (omega (arith, length-append formula.fixed formula.members, l))
 
   alone : repeats formula.fixed formula.members ≡ false
-  alone = no_repeats formula.fixed formula.members (Apart-right formula.fixed formula.members f.apart) (Apart-disjoint formula.fixed formula.members f.apart)
+  alone = no_repeats formula.fixed formula.members (AreDistinct-right formula.fixed formula.members f.apart) (AreDistinct-disjoint formula.fixed formula.members f.apart)
 
-birth_passes : (kinds : List Kind) (n : ℕ) (d : Definition) → IsDefinitionOf kinds n d → refused kinds n None (Birth d) ≡ None
+birth_passes : (kinds : List Kind) (n : ℕ) (d : Definition) → IsDefinitionOf kinds n d → first_error kinds n None (Birth d) ≡ None
 birth_passes kinds n (Input value) h = λ i. error_of false false (not (h.1 i)) false false false false false
 birth_passes kinds n (Derived formula) h =
     λ i. error_of (all_known kinds n formula h.1 i) (all_lower kinds n formula h.1 i) (well_typed kinds n formula h.1 i) (few kinds n formula h.1 i) false false (alone kinds n formula h.1 i) false
@@ -201,10 +201,10 @@ module _ (rows : List Row) (n : ℕ) (d : Definition) (b : IsBook rows) (h : n <
 
   half_passes : refusal_of (half_present n rows) n (Birth d) ≡ None
   half_passes =
-      (λ i. refused (roster-half n rows i) n (present (half_empty n rows i)) (Birth d))
+      (λ i. first_error (roster-half n rows i) n (present (half_empty n rows i)) (Birth d))
       ∙ birth_passes (roster_of rows) n d defined
 
-  pub half_accepts : IsAcceptedAfter (half_present n rows) n (Birth d)
+  pub half_accepts : AcceptsChange (half_present n rows) n (Birth d)
   half_accepts = record { form = half_form; passes = half_passes }
 
 -- ---- the start

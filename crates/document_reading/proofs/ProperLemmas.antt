@@ -2,7 +2,7 @@
 use Rattle.std.proofs.Common.{ℕ, List, [], ◌∷◌, ◌++◌, inl, inr, refl}
 use Rattle.std.specs.Prelude.{All}
 use Rattle.std.proofs.lemmas.List.Elements.{All-cons, All-nil}
-use Rattle.propagation.specs.Words.{Has}
+use Rattle.propagation.specs.Lists.{Has}
 use Rattle.svc_graph.specs.Accepting.{IsProper}
 use Rattle.svc_expr.specs.Tree.{tree_of}
 use Rattle.svc_token.specs.Cutting.{AreNamed}

@@ -11,7 +11,7 @@ use Rattle.svc_graph.specs.declared.definition.Definition.TheVariants as definit
 use Rattle.svc_graph.specs.declared.errors.ChangeError.{ChangeError}
 use Rattle.svc_graph.specs.declared.errors.ChangeError.TheVariants as error
 use Rattle.svc_graph.specs.declared.kind.Kind.{Kind}
-use Rattle.svc_graph.specs.History.{Row, history_of, kind_of, place_of, present, roster_of}
+use Rattle.svc_graph.specs.History.{Row, history_of, kind_of, find_service, present, roster_of}
 use Rattle.svc_graph.specs.Refusals.{names_unknown, names_high, has_wrong_type, has_too_many, sets_derived, changes_input, brings_again, drops_other, refusal_of, any_named}
 use Rattle.svc_value.specs.declared.value.Value.{Value}
 use Rattle.svc_value.specs.declared.value.ValueType.{ValueType}
@@ -25,9 +25,9 @@ use Rattle.document_reading.specs.declared.statement.Body.TheVariants.{Formula}
 use Rattle.document_reading.specs.declared.statement.NamedFormula.{NamedFormula}
 use Rattle.document_reading.specs.declared.statement.Statement.{Statement}
 use Rattle.document_reading.specs.declared.statement.Statement.TheVariants.{Input, Derived, Set, Add, Drop, Define}
-use Rattle.document_reading.specs.Reader.{code_or, code_where, full_code, change_code, name_code, with_service}
+use Rattle.document_reading.specs.Parser.{code_or, code_where, full_code, change_code, name_code, with_service}
 use Rattle.document_reading.specs.Refusals.{is_unknown, names_in, is_taken, is_past_services, has_wrong_rank, is_large, is_tested, is_past_changes, is_out_of_mode, is_past_legs, refusal}
-use Rattle.document_reading.specs.State.{State, declares, changes, steps, number_of, formula_of}
+use Rattle.document_reading.specs.State.{State, declares, changes, steps, service_named, formula_of}
 use Rattle.document_reading.proofs.NumberLemmas.{named, numbers_within, any-append, any_none}
 
 -- ---- tests
@@ -103,28 +103,28 @@ plain : (mode : Mode) (state : State) (s : Statement) → steps state.rows 0 s �
 plain mode.Plain state s h = ap (λ (ss : List _). nat_lt 0 (length ss)) h
 plain mode.Step state s h = refl
 
-known_number : (rows : List Row) (name : List ℕ) → is_unknown rows name ≡ false → nat_le (length (roster_of rows)) (number_of rows name) ≡ false
-known_number rows name h = lt-leb (length (roster_of rows)) (number_of rows name) (subst (λ (n : ℕ). number_of rows name < n) (sym (length-map rows kind_of)) (named rows name h).within)
+known_number : (rows : List Row) (name : List ℕ) → is_unknown rows name ≡ false → nat_le (length (roster_of rows)) (service_named rows name) ≡ false
+known_number rows name h = lt-leb (length (roster_of rows)) (service_named rows name) (subst (λ (n : ℕ). service_named rows name < n) (sym (length-map rows kind_of)) (named rows name h).within)
 
 both_known : (rows : List Row) (a b : List ℕ) → is_unknown rows a ≡ false → is_unknown rows b ≡ false → list_any (is_unknown rows) (a ∷ b ∷ []) ≡ false
 both_known rows a b h k = (λ i. h i || (k i || false))
 
 pub set_refusal : (mode : Mode) (state : State) (name : List ℕ) (value : Value) → is_unknown state.rows name ≡ false
-    → refusal mode state (Set name value) ≡ change_code state (number_of state.rows name) (change.Set value)
+    → refusal mode state (Set name value) ≡ change_code state (service_named state.rows name) (change.Set value)
 set_refusal mode state name value known =
-    refusal_made mode state (Set name value) (record { id = number_of state.rows name; change = change.Set value }) state.rows refl (append-nil state.rows)
+    refusal_made mode state (Set name value) (record { id = service_named state.rows name; change = change.Set value }) state.rows refl (append-nil state.rows)
     refl refl refl (or_false (is_unknown state.rows name) ∙ known) refl (plain mode state (Set name value) refl) refl refl
 
 pub add_refusal : (mode : Mode) (state : State) (reader member : List ℕ) → is_unknown state.rows reader ≡ false → is_unknown state.rows member ≡ false
-    → refusal mode state (Add reader member) ≡ change_code state (number_of state.rows reader) (change.Add (number_of state.rows member))
+    → refusal mode state (Add reader member) ≡ change_code state (service_named state.rows reader) (change.Add (service_named state.rows member))
 add_refusal mode state reader member known also =
-    refusal_made mode state (Add reader member) (record { id = number_of state.rows reader; change = change.Add (number_of state.rows member) }) state.rows refl (append-nil state.rows)
+    refusal_made mode state (Add reader member) (record { id = service_named state.rows reader; change = change.Add (service_named state.rows member) }) state.rows refl (append-nil state.rows)
     refl refl refl (both_known state.rows reader member known also) refl (plain mode state (Add reader member) refl) refl (known_number state.rows member also)
 
 pub drop_refusal : (mode : Mode) (state : State) (reader member : List ℕ) → is_unknown state.rows reader ≡ false → is_unknown state.rows member ≡ false
-    → refusal mode state (Drop reader member) ≡ change_code state (number_of state.rows reader) (change.Drop (number_of state.rows member))
+    → refusal mode state (Drop reader member) ≡ change_code state (service_named state.rows reader) (change.Drop (service_named state.rows member))
 drop_refusal mode state reader member known also =
-    refusal_made mode state (Drop reader member) (record { id = number_of state.rows reader; change = change.Drop (number_of state.rows member) }) state.rows refl (append-nil state.rows)
+    refusal_made mode state (Drop reader member) (record { id = service_named state.rows reader; change = change.Drop (service_named state.rows member) }) state.rows refl (append-nil state.rows)
     refl refl refl (both_known state.rows reader member known also) refl (plain mode state (Drop reader member) refl) refl (known_number state.rows member also)
 
 -- the names of a formula over declared services
@@ -132,14 +132,14 @@ known_formula : (rows : List Row) (formula : NamedFormula) (test : ℕ → Bool)
     → ((p : ℕ) → p < length rows → test p ≡ false) → any_named test (formula_of rows formula) ≡ false
 known_formula rows formula test known all =
     let parts = any-append (is_unknown rows) formula.names formula.members known in
-    (λ i. any_none test (map (number_of rows) formula.names) (λ p has. all p (numbers_within rows formula.names parts.0 p has)) i
-    || any_none test (map (number_of rows) formula.members) (λ p has. all p (numbers_within rows formula.members parts.1 p has)) i)
+    (λ i. any_none test (map (service_named rows) formula.names) (λ p has. all p (numbers_within rows formula.names parts.0 p has)) i
+    || any_none test (map (service_named rows) formula.members) (λ p has. all p (numbers_within rows formula.members parts.1 p has)) i)
 
 pub define_refusal : (mode : Mode) (state : State) (name : List ℕ) (formula : NamedFormula) → is_unknown state.rows name ≡ false
     → list_any (is_unknown state.rows) (formula.names ++ formula.members) ≡ false
-    → refusal mode state (Define name (Formula formula)) ≡ change_code state (number_of state.rows name) (change.Define (formula_of state.rows formula))
+    → refusal mode state (Define name (Formula formula)) ≡ change_code state (service_named state.rows name) (change.Define (formula_of state.rows formula))
 define_refusal mode state name formula known names =
-    refusal_made mode state (Define name (Formula formula)) (record { id = number_of state.rows name; change = change.Define (formula_of state.rows formula) }) state.rows refl (append-nil state.rows)
+    refusal_made mode state (Define name (Formula formula)) (record { id = service_named state.rows name; change = change.Define (formula_of state.rows formula) }) state.rows refl (append-nil state.rows)
     refl refl refl (λ i. known i || names i) refl (plain mode state (Define name (Formula formula)) refl) refl
     (known_formula state.rows formula (λ p. nat_le (length (roster_of state.rows)) p) names
     (λ p h. lt-leb (length (roster_of state.rows)) p (subst (λ (n : ℕ). p < n) (sym (length-map state.rows kind_of)) h)))
@@ -156,21 +156,21 @@ pub input_refusal : (mode : Mode) (state : State) (name : List ℕ) (ty : ValueT
     → refusal mode state (Input name ty value)
     ≡ change_code (with_service state (record { name = name; rank = 0; ty = ty })) (length state.rows) (change.Birth (definition.Input value))
 input_refusal mode state name ty value new =
-    let free = new_name (is_some (place_of state.rows name)) (nat_le 64 (length state.rows)) new in
+    let free = new_name (is_some (find_service state.rows name)) (nat_le 64 (length state.rows)) new in
     refusal_made mode state (Input name ty value) (record { id = length state.rows; change = change.Birth (definition.Input value) })
     (with_services state.rows (record { name = name; rank = 0; ty = ty } ∷ [])) refl refl
-    (or_false (is_some (place_of state.rows name)) ∙ free.0) free.1 refl refl refl (plain mode state (Input name ty value) refl) refl refl
+    (or_false (is_some (find_service state.rows name)) ∙ free.0) free.1 refl refl refl (plain mode state (Input name ty value) refl) refl refl
 
 pub derived_refusal : (mode : Mode) (state : State) (name : List ℕ) (ty : ValueType) (rank : ℕ) (formula : NamedFormula) → name_code state.rows name ≡ None
     → (nat_lt rank 1 || nat_lt 1000 rank) ≡ false → list_any (is_unknown state.rows) (formula.names ++ formula.members) ≡ false
     → refusal mode state (Derived name ty rank (Formula formula))
     ≡ change_code (with_service state (record { name = name; rank = rank; ty = ty })) (length state.rows) (change.Birth (definition.Derived (formula_of state.rows formula)))
 derived_refusal mode state name ty rank formula new ranked names =
-    let free = new_name (is_some (place_of state.rows name)) (nat_le 64 (length state.rows)) new in
+    let free = new_name (is_some (find_service state.rows name)) (nat_le 64 (length state.rows)) new in
     let rows = with_services state.rows (record { name = name; rank = rank; ty = ty } ∷ []) in
     let more : length (roster_of rows) ≡ length state.rows + 1 = length-map rows kind_of ∙ length-append state.rows _ in
     refusal_made mode state (Derived name ty rank (Formula formula)) (record { id = length state.rows; change = change.Birth (definition.Derived (formula_of state.rows formula)) })
     rows refl refl
-    (or_false (is_some (place_of state.rows name)) ∙ free.0) free.1 ranked names refl (plain mode state (Derived name ty rank (Formula formula)) refl) refl
+    (or_false (is_some (find_service state.rows name)) ∙ free.0) free.1 ranked names refl (plain mode state (Derived name ty rank (Formula formula)) refl) refl
     (known_formula state.rows formula (λ p. nat_le (length (roster_of rows)) p || p == length state.rows) names
     (λ p h. (λ i. lt-leb (length (roster_of rows)) p (omega (arith, more, h)) i || ne_eqb p (length state.rows) (λ e. let k = h in omega (arith, e, h)) i)))

@@ -5,9 +5,9 @@ use Rattle.svc_token.specs.Cutting.{Cuts}
 use Rattle.svc_token.specs.declared.token.Token.{Token}
 use Rattle.svc_token.proofs.CutLemmas.{one_cut}
 use Rattle.document_reading.specs.declared.statement.Statement.{Statement}
-use Rattle.document_reading.specs.declared.stop.Stop.{Stop}
+use Rattle.document_reading.specs.declared.line_error.LineError.{LineError}
 use Rattle.document_reading.specs.Grammar.{is_silent, Means, Says, silent, spoken}
-use Rattle.document_reading.specs.Reading.{Answers}
+use Rattle.document_reading.specs.Reading.{ParsesAs}
 use Rattle.document_reading.proofs.ResultLemmas.{answers_so}
 use Rattle.document_reading.proofs.GrammarLemmas.{one_meaning}
 
@@ -19,7 +19,7 @@ spoken_means : (line : List ℕ) (tokens : List Token) → is_silent line ≡ fa
 spoken_means line tokens e c s (silent k) = absurd (not_both (is_silent line) k e)
 spoken_means line tokens e c s (spoken {tokens = others} k d m) = subst (λ (tokens : List Token). Means tokens s) (one_cut line others tokens d c) m
 
-pub line_says : (line : List ℕ) (tokens : List Token) → is_silent line ≡ false → Cuts line tokens → (result : Result Statement Stop) → Answers (Means tokens) result → Answers (Says line) result
+pub line_says : (line : List ℕ) (tokens : List Token) → is_silent line ≡ false → Cuts line tokens → (result : Result Statement LineError) → ParsesAs (Means tokens) result → ParsesAs (Says line) result
 line_says line tokens e c result h = answers_so (Means tokens) (Says line) (λ s m. spoken e c m) (spoken_means line tokens e c) result h
 
 -- a line says one thing at most

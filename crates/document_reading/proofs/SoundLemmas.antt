@@ -5,7 +5,7 @@ use Rattle.std.proofs.lemmas.List.{append-nil}
 use Rattle.svc_graph.specs.declared.definition.Change.TheVariants as change
 use Rattle.svc_graph.specs.declared.definition.Definition.{Definition}
 use Rattle.svc_graph.specs.declared.definition.Definition.TheVariants as definition
-use Rattle.svc_graph.specs.History.{Row, changed, grown, history_of}
+use Rattle.svc_graph.specs.History.{Row, rows_after_change, row_after, history_of}
 use Rattle.svc_plan.specs.declared.plan.Mode.{Mode}
 use Rattle.svc_plan.specs.declared.plan.PlanChange.{PlanChange}
 use Rattle.svc_plan.specs.declared.plan.ServiceLine.{ServiceLine}
@@ -51,7 +51,7 @@ length_size (l ∷ ls) = let h = length_size ls in omega (arith, h)
 
 -- ---- clocks
 
-one_more : (rows : List Row) (lines : List ServiceLine) (c : PlanChange) (m : ℕ) → length (history_of (changed (with_services rows lines) c.id c.change) m) ≤ length (history_of rows m) + 1
+one_more : (rows : List Row) (lines : List ServiceLine) (c : PlanChange) (m : ℕ) → length (history_of (rows_after_change (with_services rows lines) c.id c.change) m) ≤ length (history_of rows m) + 1
 one_more rows lines c m = omega (arith, clock-changed (with_services rows lines) c.id m c.change, clock-services rows lines m)
 
 none_more : (rows : List Row) (lines : List ServiceLine) (m : ℕ) → length (history_of (with_services rows lines) m) ≤ length (history_of rows m) + 1
@@ -91,9 +91,9 @@ clock_reads {first = first} (line h r) m = let k = clock_reads r m in let c = cl
 born-next : (mode : Mode) (state : State) (s : Statement) → refusal mode state s ≡ None → EachBorn state.rows → EachBorn (next state s).rows
 born-next mode state s h b = by s (fits_of mode state s h).small
   where
-    birth : (new : ServiceLine) (d : Definition) → EachBorn (changed (state.rows ++ row_of new ∷ []) (length state.rows) (change.Birth d))
+    birth : (new : ServiceLine) (d : Definition) → EachBorn (rows_after_change (state.rows ++ row_of new ∷ []) (length state.rows) (change.Birth d))
     birth new d =
-        subst EachBorn (sym (changed-last state.rows (row_of new) (change.Birth d))) (born-append state.rows (grown (row_of new) (change.Birth d)) b (λ e. cc))
+        subst EachBorn (sym (changed-last state.rows (row_of new) (change.Birth d))) (born-append state.rows (row_after (row_of new) (change.Birth d)) b (λ e. cc))
 
     same : EachBorn (with_services state.rows [])
     same = subst EachBorn (sym (append-nil state.rows)) b

@@ -5,8 +5,8 @@ use Rattle.std.specs.Str.{bytes_eq}
 use Rattle.std.proofs.lemmas.Bool.{leb-false, ltb-false}
 use Rattle.std.proofs.lemmas.List.{append-nil}
 use Rattle.std.proofs.lemmas.List.Elements.{All-cons, All-nil}
-use Rattle.svc_graph.proofs.Apart.{or_left, or_right}
-use Rattle.svc_graph.specs.History.{Row, names_in, place_of}
+use Rattle.svc_graph.proofs.AreDistinct.{or_left, or_right}
+use Rattle.svc_graph.specs.History.{Row, names_in, find_service}
 use Rattle.svc_token.specs.Word.{IsName}
 use Rattle.svc_plan.specs.declared.plan.Leg.{Leg}
 use Rattle.svc_plan.specs.declared.plan.Mode.{Mode}
@@ -22,7 +22,7 @@ use Rattle.document_reading.specs.declared.statement.Statement.TheVariants.{Sile
 use Rattle.document_reading.specs.Document.{lines_of, Reads, ends, line}
 use Rattle.document_reading.specs.Refusals.{is_past_legs}
 use Rattle.document_reading.specs.Sound.{IsStart, IsSound}
-use Rattle.document_reading.specs.State.{State, start, next, said, declares, changes, legs_in}
+use Rattle.document_reading.specs.State.{State, start, next, leg_said, declares, changes, legs_in}
 use Rattle.document_reading.proofs.FitLemmas.{Fits, fits_of, changes_accepted}
 use Rattle.document_reading.proofs.MoreLemmas.{accepted-more, with_changes-more, with_changes-append, accepted-append}
 use Rattle.document_reading.proofs.ProperLemmas.{DeclaresName, said_proper, said_named}
@@ -65,10 +65,10 @@ at_start rows before h = record {
 
 -- at most one service, which can be declared
 service_after : (rows there : List Row) (l : ServiceLine) → names_in there ≡ names_in rows → length there ≡ length rows → IsName l.name
-    → is_some (place_of rows l.name) ≡ false → nat_le 64 (length rows) ≡ false → l.rank ≤ 1000 → IsServiceAfter there l
+    → is_some (find_service rows l.name) ≡ false → nat_le 64 (length rows) ≡ false → l.rank ≤ 1000 → IsServiceAfter there l
 service_after rows there l same long name new room rank = record {
   name = name;
-  new = ap (position (bytes_eq l.name)) same ∙ none_of (place_of rows l.name) new;
+  new = ap (position (bytes_eq l.name)) same ∙ none_of (find_service rows l.name) new;
   room = let k = leb-false 64 (length rows) room in omega (arith, long, k);
   rank = rank;
 }
@@ -83,9 +83,9 @@ most_rank rank h = ltb-false 1000 rank (or_right (nat_lt rank 1) (nat_lt 1000 ra
 declared_after : (mode : Mode) (s : State) (there : List Row) (statement : Statement) → names_in there ≡ names_in s.rows → length there ≡ length s.rows
     → DeclaresName statement → Fits mode s statement → AreServicesAfter there (declares statement)
 declared_after mode s there (Input name ty value) same long named f =
-    (service_after s.rows there (record { name = name; rank = 0; ty = ty }) same long named (or_left (is_some (place_of s.rows name)) false f.new) f.room (omega arith), tt)
+    (service_after s.rows there (record { name = name; rank = 0; ty = ty }) same long named (or_left (is_some (find_service s.rows name)) false f.new) f.room (omega arith), tt)
 declared_after mode s there (Derived name ty rank body) same long named f =
-    (service_after s.rows there (record { name = name; rank = rank; ty = ty }) same long named (or_left (is_some (place_of s.rows name)) false f.new) f.room (most_rank rank f.rank), tt)
+    (service_after s.rows there (record { name = name; rank = rank; ty = ty }) same long named (or_left (is_some (find_service s.rows name)) false f.new) f.room (most_rank rank f.rank), tt)
 declared_after mode s there statement same long named f = tt
 
 one_change : (rows : List Row) (statement : Statement) → length (changes rows statement) ≤ 1
@@ -173,7 +173,7 @@ module _ (rows : List Row) (before : ℕ) (s : State) (h : Stands rows before s)
 
   with_said : (mode : Mode) (statement : Statement) (last : State) → IsSound s → DeclaresName statement → AreAcceptedAfter (with_services s.rows (declares statement)) (changes s.rows statement)
       → Fits mode s statement → is_past_legs s statement ≡ nat_le 1000 (s.before + length s.ended)
-      → last ≡ record s { lines = s.lines + 1; rows = with_changes (with_services s.rows (declares statement)) (changes s.rows statement); open_leg = said s statement; is_open = true }
+      → last ≡ record s { lines = s.lines + 1; rows = with_changes (with_services s.rows (declares statement)) (changes s.rows statement); open_leg = leg_said s statement; is_open = true }
       → Stands rows before last
   with_said mode statement last sound named k f e is =
       with_more (declares statement) (changes s.rows statement) last (declared_after mode s (opened rows s) statement same_names same_length named f) k

@@ -5,10 +5,10 @@ use Rattle.svc_graph.specs.History.{Row}
 use Rattle.svc_plan.specs.declared.plan.Mode.{Mode}
 use Rattle.document_reading.specs.declared.refusal.Code.{Code}
 use Rattle.document_reading.specs.declared.refusal.Refusal.{Refusal}
-use Rattle.document_reading.specs.declared.stop.Stop.{Stop}
-use Rattle.document_reading.specs.declared.stop.Stop.TheVariants.{Refused}
+use Rattle.document_reading.specs.declared.line_error.LineError.{LineError}
+use Rattle.document_reading.specs.declared.line_error.LineError.TheVariants.{Refused}
 use Rattle.document_reading.specs.Document.{lines_of, Reads, ends, RefusesLine, IsFirstRefused, IsRefusalAfter}
-use Rattle.document_reading.specs.Reader.{TakesLine, RefusedAt}
+use Rattle.document_reading.specs.Parser.{TakesLine, RefusedAt}
 use Rattle.document_reading.specs.Sound.{IsStart, IsSound}
 use Rattle.document_reading.specs.State.{State, start}
 use Rattle.document_reading.proofs.ReadingLemmas.{reads-last}
@@ -59,11 +59,11 @@ refused_here mode rows before bytes rest after line count state code r split h =
 }
 
 -- the refusal at a line that is refused
-pub refusal_here : (X : Type 0) (mode : Mode) (first : State) (bytes rest after line : List ℕ) (count : ℕ) (state : State) (stop : Stop) → ReadSoFar mode first bytes rest count state
+pub refusal_here : (X : Type 0) (mode : Mode) (first : State) (bytes rest after line : List ℕ) (count : ℕ) (state : State) (stop : LineError) → ReadSoFar mode first bytes rest count state
     → IsStart first → lines_of rest ≡ line ∷ lines_of after → length bytes ≤ 1048576 → RefusedAt {X = X} (Err stop) (RefusesLine mode state line)
     → (refusal : Refusal) → stop ≡ Refused refusal.code → refusal.line ≡ count + 1 → IsRefusalAfter first.rows first.before mode bytes refusal
 refusal_here X mode first bytes rest after line count state stop r s split short h refusal is at =
-    let refuses : RefusesLine mode state line refusal.code = subst (λ (t : Stop). RefusedAt {X = X} (Err t) (RefusesLine mode state line)) is h in
+    let refuses : RefusesLine mode state line refusal.code = subst (λ (t : LineError). RefusedAt {X = X} (Err t) (RefusesLine mode state line)) is h in
     let from = subst (λ (f : State). ReadSoFar mode f bytes rest count state) s.begins r in
     inr (
       short,

@@ -41,7 +41,7 @@ pub data IsUnread (line : List ℕ) : Code → Type 0 where
   other_bytes : length line ≤ 4096 → (IsUtf8 line → ⊥) → IsUnread line E03
   other_words : length line ≤ 4096 → IsUtf8 line → ((statement : Statement) → Says line statement → ⊥) → IsUnread line E04
 
--- the line is refused in this state, with the least code whose condition holds
+-- the line is refused in this state, with the lowest-numbered code whose condition holds
 pub data RefusesLine (mode : Mode) (state : State) (line : List ℕ) : Code → Type 0 where
   unread : {code : Code} → IsUnread line code → RefusesLine mode state line code
   against : {statement : Statement} {code : Code} → IsLine line statement → refusal mode state statement ≡ Some code → RefusesLine mode state line code

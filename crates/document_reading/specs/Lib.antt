@@ -1,7 +1,7 @@
 pub mod Document
 pub mod Grammar
 pub mod Present
-pub mod Reader
+pub mod Parser
 pub mod Reading
 pub mod Refusals
 pub mod Sound

@@ -14,8 +14,8 @@ use Rattle.document_reading.specs.declared.head.Head.TheVariants as head
 use Rattle.document_reading.specs.declared.refusal.Code.TheVariants.{E04}
 use Rattle.document_reading.specs.declared.statement.Statement.{Statement}
 use Rattle.document_reading.specs.declared.statement.Statement.TheVariants.{Input, Derived, Set, Add, Drop, Define, Settle, Do, Take, Turn}
-use Rattle.document_reading.specs.declared.stop.Stop.{Stop}
-use Rattle.document_reading.specs.declared.stop.Stop.TheVariants.{Refused, OutOfMemory}
+use Rattle.document_reading.specs.declared.line_error.LineError.{LineError}
+use Rattle.document_reading.specs.declared.line_error.LineError.TheVariants.{Refused, OutOfMemory}
 use Rattle.document_reading.specs.Grammar.{IsLiteral, IsBody}
 
 -- how many bytes stand before the first LF
@@ -26,14 +26,14 @@ line_len (b ∷ bytes) = if b == 10 then 0 else suc (line_len bytes)
 -- ---- what a call answers
 
 -- it is refused since nothing is so, unless memory ran out
-abbrev pub Fails : {X : Type 0} → (X → Type 0) → Stop → Type 0
+abbrev pub Fails : {X : Type 0} → (X → Type 0) → LineError → Type 0
 Fails {X} Is (Refused code) = (code ≡ E04) × ((x : X) → Is x → ⊥)
 Fails Is OutOfMemory = Unit {0}
 
 -- what a call answered is so
-abbrev pub Answers : {X : Type 0} → (X → Type 0) → Result X Stop → Type 0
-Answers Is (Ok x) = Is x
-Answers Is (Err stop) = Fails Is stop
+abbrev pub ParsesAs : {X : Type 0} → (X → Type 0) → Result X LineError → Type 0
+ParsesAs Is (Ok x) = Is x
+ParsesAs Is (Err stop) = Fails Is stop
 
 -- ---- the front of the tokens
 
@@ -152,10 +152,10 @@ unfoldable pub negative : ℕ → Option Value
 negative n = if nat_le n (2 ^ 63) then Some (Int (neg_ℤ (pos n))) else None
 
 -- a number alone, or `-` and a number
-abbrev pub number_of : List Token → Option Value
-number_of (Number n ∷ []) = whole n
-number_of (Dash ∷ Number n ∷ []) = negative n
-number_of tokens = None
+abbrev pub literal_value : List Token → Option Value
+literal_value (Number n ∷ []) = whole n
+literal_value (Dash ∷ Number n ∷ []) = negative n
+literal_value tokens = None
 
 -- ---- expressions and members
 

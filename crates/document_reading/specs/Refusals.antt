@@ -4,7 +4,7 @@ use Rattle.std.specs.List.{list_any}
 use Rattle.svc_graph.specs.declared.definition.Change.{Change}
 use Rattle.svc_graph.specs.declared.definition.Definition.{Definition}
 use Rattle.svc_graph.specs.declared.kind.Kind.{Kind}
-use Rattle.svc_graph.specs.History.{Row, history_of, place_of, present, roster_of}
+use Rattle.svc_graph.specs.History.{Row, history_of, find_service, present, roster_of}
 use Rattle.svc_graph.specs.Refusals.{names_high, has_wrong_type, has_too_many, sets_derived, changes_input, brings_again, drops_other}
 use Rattle.svc_plan.specs.declared.plan.Mode.{Mode}
 use Rattle.svc_plan.specs.declared.plan.Mode.TheVariants as mode
@@ -38,13 +38,13 @@ names_in statement = []
 
 -- a name that is not declared
 abbrev pub is_unknown : List Row → List ℕ → Bool
-is_unknown rows name = is_none (place_of rows name)
+is_unknown rows name = is_none (find_service rows name)
 
 -- ---- parts of conditions
 
 -- it declares a name that is declared
 abbrev pub is_taken : List Row → Statement → Bool
-is_taken rows statement = list_any (λ line. is_some (place_of rows line.name)) (declares statement)
+is_taken rows statement = list_any (λ line. is_some (find_service rows line.name)) (declares statement)
 
 -- it declares a service where 64 are declared
 abbrev pub is_past_services : List Row → Statement → Bool
@@ -111,6 +111,6 @@ abbrev pub first_code : (Code → Bool) → List Code → Option Code
 first_code test [] = None
 first_code test (code ∷ codes) = if test code then Some code else first_code test codes
 
--- the least code whose condition holds, if one does
+-- the lowest-numbered code whose condition holds, if one does
 abbrev pub refusal : Mode → State → Statement → Option Code
 refusal mode state statement = first_code (holds mode state statement) statement_codes

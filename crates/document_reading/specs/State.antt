@@ -3,7 +3,7 @@ use Rattle.std.specs.Prelude.{ℕ, ◌+◌, Bool, true, false, List, [], ◌∷�
 use Rattle.svc_graph.specs.declared.definition.Change.TheVariants as change
 use Rattle.svc_graph.specs.declared.definition.Definition.TheVariants as definition
 use Rattle.svc_graph.specs.declared.definition.Formula.{Formula as TheFormula}
-use Rattle.svc_graph.specs.History.{Row, place_of}
+use Rattle.svc_graph.specs.History.{Row, find_service}
 use Rattle.svc_plan.specs.declared.plan.Leg.{Leg}
 use Rattle.svc_plan.specs.declared.plan.PlanChange.{PlanChange}
 use Rattle.svc_plan.specs.declared.plan.ServiceLine.{ServiceLine}
@@ -24,32 +24,32 @@ declares (Derived name ty rank body) = record { name = name; rank = rank; ty = t
 declares statement = []
 
 -- the number of the service with this name, which is declared
-abbrev pub number_of : List Row → List ℕ → ℕ
-number_of rows name = unwrap_or (place_of rows name) 0
+abbrev pub service_named : List Row → List ℕ → ℕ
+service_named rows name = unwrap_or (find_service rows name) 0
 
 -- a formula over the services with these names
 abbrev pub formula_of : List Row → NamedFormula → TheFormula
 formula_of rows formula = record {
   expr = formula.expr;
-  fixed = map (number_of rows) formula.names;
-  members = map (number_of rows) formula.members;
+  fixed = map (service_named rows) formula.names;
+  members = map (service_named rows) formula.members;
 }
 
 -- the change that it makes where these services are declared before it, if it makes one
 abbrev pub changes : List Row → Statement → List PlanChange
 changes rows (Input name ty value) = record { id = length rows; change = change.Birth (definition.Input value) } ∷ []
 changes rows (Derived name ty rank (Formula formula)) = record { id = length rows; change = change.Birth (definition.Derived (formula_of rows formula)) } ∷ []
-changes rows (Set name value) = record { id = number_of rows name; change = change.Set value } ∷ []
-changes rows (Add reader member) = record { id = number_of rows reader; change = change.Add (number_of rows member) } ∷ []
-changes rows (Drop reader member) = record { id = number_of rows reader; change = change.Drop (number_of rows member) } ∷ []
-changes rows (Define name (Formula formula)) = record { id = number_of rows name; change = change.Define (formula_of rows formula) } ∷ []
+changes rows (Set name value) = record { id = service_named rows name; change = change.Set value } ∷ []
+changes rows (Add reader member) = record { id = service_named rows reader; change = change.Add (service_named rows member) } ∷ []
+changes rows (Drop reader member) = record { id = service_named rows reader; change = change.Drop (service_named rows member) } ∷ []
+changes rows (Define name (Formula formula)) = record { id = service_named rows name; change = change.Define (formula_of rows formula) } ∷ []
 changes rows statement = []
 
 -- the step line that it is, in the line with this number, if it is one
 abbrev pub steps : List Row → ℕ → Statement → List StepLine
-steps rows line (Do name) = record { line = line; event = event.Do (number_of rows name) } ∷ []
-steps rows line (Take reader sender) = record { line = line; event = event.Take (number_of rows reader) (number_of rows sender) } ∷ []
-steps rows line (Turn name) = record { line = line; event = event.Turn (number_of rows name) } ∷ []
+steps rows line (Do name) = record { line = line; event = event.Do (service_named rows name) } ∷ []
+steps rows line (Take reader sender) = record { line = line; event = event.Take (service_named rows reader) (service_named rows sender) } ∷ []
+steps rows line (Turn name) = record { line = line; event = event.Turn (service_named rows name) } ∷ []
 steps rows line statement = []
 
 -- ---- what the lines so far leave
@@ -73,8 +73,8 @@ abbrev pub start : List Row → ℕ → State
 start rows before = record { lines = 0; rows = rows; before = before; ended = []; open_leg = empty_leg; is_open = false }
 
 -- the leg with what a statement says as its last
-abbrev pub said : State → Statement → Leg
-said state statement = record {
+abbrev pub leg_said : State → Statement → Leg
+leg_said state statement = record {
   services = state.open_leg.services ++ declares statement;
   changes = state.open_leg.changes ++ changes state.rows statement;
   steps = state.open_leg.steps ++ steps state.rows (state.lines + 1) statement;
@@ -87,7 +87,7 @@ next state Settle = record state { lines = state.lines + 1; ended = state.ended 
 next state statement = record state {
   lines = state.lines + 1;
   rows = with_changes (with_services state.rows (declares statement)) (changes state.rows statement);
-  open_leg = said state statement;
+  open_leg = leg_said state statement;
   is_open = true;
 }
 

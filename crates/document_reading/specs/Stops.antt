@@ -4,11 +4,11 @@ use Rattle.svc_graph.specs.declared.errors.ChangeError.TheVariants as error
 use Rattle.svc_graph.specs.declared.errors.DeclareError.{DeclareError}
 use Rattle.svc_graph.specs.declared.errors.DeclareError.TheVariants as declare
 use Rattle.document_reading.specs.declared.refusal.Code.TheVariants.{E05, E06, E08, E09, E10, E11, E13, E14, E15, E16}
-use Rattle.document_reading.specs.declared.stop.Stop.{Stop}
-use Rattle.document_reading.specs.declared.stop.Stop.TheVariants.{Refused, OutOfMemory}
+use Rattle.document_reading.specs.declared.line_error.LineError.{LineError}
+use Rattle.document_reading.specs.declared.line_error.LineError.TheVariants.{Refused, OutOfMemory}
 
--- the code of the first test that holds, or want of memory
-abbrev pub stop_of : ChangeError → Stop
+-- the code of the first test that holds, or out of memory
+abbrev pub stop_of : ChangeError → LineError
 stop_of error.Unknown = Refused E08
 stop_of error.RankNotLower = Refused E09
 stop_of error.WrongType = Refused E10
@@ -20,7 +20,7 @@ stop_of error.NotMember = Refused E16
 stop_of error.OutOfMemory = OutOfMemory
 
 -- a name that is declared, or no room for a service
-abbrev pub stop_of_declaring : DeclareError → Stop
+abbrev pub stop_of_declaring : DeclareError → LineError
 stop_of_declaring declare.Taken = Refused E05
 stop_of_declaring declare.Full = Refused E06
 stop_of_declaring declare.OutOfMemory = OutOfMemory

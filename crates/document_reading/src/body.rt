@@ -3,17 +3,17 @@ ghost use Rattle.std.specs.Prelude.{◌≡◌, not, length};
 ghost use Rattle.std.specs.List.{take_while};
 ghost use Rattle.document_reading.specs.declared.statement.Body.TheVariants.{Formula};
 ghost use Rattle.document_reading.specs.Grammar.{AreMembers, IsOver, IsBody};
-ghost use Rattle.document_reading.specs.Reading.{name_of, is_comma, is_over, Answers};
+ghost use Rattle.document_reading.specs.Reading.{name_of, is_comma, is_over, ParsesAs};
 
+use crate::line_error::LineError;
 use crate::refusal::Code;
-use crate::statement::{Body, LentNames, NamedFormula};
-use crate::stop::Stop;
+use crate::statement::{Body, NameRefs, NamedFormula};
 use std::alloc::Global;
 use svc_expr::{ExprError, Reading, read_tokens};
-use svc_token::{Keyword, LentName, Token};
+use svc_token::{Keyword, NameRef, Token};
 
 // The name that a token is.
-fn name_of<'a>(token: &Token<'a>) -> Option<LentName<'a>>
+fn name_of<'a>(token: &Token<'a>) -> Option<NameRef<'a>>
     ensures { result ≡ name_of token.now }
 {
     match token {
@@ -30,30 +30,30 @@ fn is_comma(token: &Token<'_>) -> bool
 }
 
 // The names that these tokens are, with commas between.
-fn members<'a>(alloc: Global, tokens: &[Token<'a>]) -> Result<LentNames<'a>, Stop>
-    ensures { Answers (AreMembers tokens.now) result }
+fn members<'a>(alloc: Global, tokens: &[Token<'a>]) -> Result<NameRefs<'a>, LineError>
+    ensures { ParsesAs (AreMembers tokens.now) result }
 {
-    let mut members = LentNames::new(alloc);
+    let mut members = NameRefs::new(alloc);
     let mut at_name = true;
     for token in tokens {
         if at_name {
             let Some(name) = name_of(token) else {
-                return Err(Stop::Refused(Code::E04));
+                return Err(LineError::Refused(Code::E04));
             };
             members.push(name)?;
         } else if !is_comma(token) {
-            return Err(Stop::Refused(Code::E04));
+            return Err(LineError::Refused(Code::E04));
         }
         at_name = !at_name;
     }
     if at_name {
-        return Err(Stop::Refused(Code::E04));
+        return Err(LineError::Refused(Code::E04));
     }
     Ok(members)
 }
 
 // An expression that was read, with these members.
-fn formula<'a>(reading: Reading, members: LentNames<'a>) -> Body<'a>
+fn formula<'a>(reading: Reading, members: NameRefs<'a>) -> Body<'a>
     ensures { result ≡ Formula (record { expr = reading.expr; names = reading.names; members = members.entry }) }
 {
     let Reading { expr, names } = reading;
@@ -65,14 +65,18 @@ fn formula<'a>(reading: Reading, members: LentNames<'a>) -> Body<'a>
 }
 
 // The expression that these tokens are, with these members.
-fn over<'a>(alloc: Global, tokens: &[Token<'a>], members: LentNames<'a>) -> Result<Body<'a>, Stop>
-    ensures { Answers (IsOver members.entry tokens.now) result }
+fn over<'a>(
+    alloc: Global,
+    tokens: &[Token<'a>],
+    members: NameRefs<'a>,
+) -> Result<Body<'a>, LineError>
+    ensures { ParsesAs (IsOver members.entry tokens.now) result }
 {
     match read_tokens(alloc, tokens) {
         Ok(reading) => Ok(formula(reading, members)),
-        Err(ExprError::Bad) => Err(Stop::Refused(Code::E04)),
+        Err(ExprError::Bad) => Err(LineError::Refused(Code::E04)),
         Err(ExprError::TooLarge) => Ok(Body::TooLarge),
-        Err(ExprError::OutOfMemory) => Err(Stop::OutOfMemory),
+        Err(ExprError::OutOfMemory) => Err(LineError::OutOfMemory),
     }
 }
 
@@ -92,12 +96,12 @@ fn over_at(tokens: &[Token<'_>]) -> usize
 
 /// What these tokens are to compute by: an expression alone, or with its members behind `over`. `E04` exactly where they are
 /// neither.
-pub(crate) fn body<'a>(alloc: Global, tokens: &[Token<'a>]) -> Result<Body<'a>, Stop>
-    ensures { Answers (IsBody tokens.now) result }
+pub(crate) fn body<'a>(alloc: Global, tokens: &[Token<'a>]) -> Result<Body<'a>, LineError>
+    ensures { ParsesAs (IsBody tokens.now) result }
 {
     let (before, rest) = tokens.split_at(over_at(tokens));
     match rest {
-        [] => over(alloc, before, LentNames::new(alloc)),
+        [] => over(alloc, before, NameRefs::new(alloc)),
         [_, behind @ ..] => match members(alloc, behind) {
             Ok(members) => over(alloc, before, members),
             Err(stop) => Err(stop),

@@ -7,15 +7,15 @@ ghost use Rattle.svc_plan.specs.declared.plan.Mode.{Mode};
 ghost use Rattle.svc_plan.specs.Rows.{AreLegsAfter, present_rows};
 ghost use Rattle.document_reading.specs.declared.refusal.Refusal.{Refusal};
 ghost use Rattle.document_reading.specs.Document.{lines_of, Reads, HasLegs, HasLegsAfter, IsAccepted, IsAcceptedAfter, IsRefusal, IsRefusalAfter};
-ghost use Rattle.document_reading.specs.Reader.{state};
+ghost use Rattle.document_reading.specs.Parser.{state};
 ghost use Rattle.document_reading.specs.Sound.{IsStart};
 ghost use Rattle.document_reading.specs.State.{start};
 
 use crate::line::first_line;
+use crate::line_error::LineError;
+use crate::parser::Parser;
 use crate::present::present_book;
-use crate::reader::Reader;
 use crate::refusal::{Code, DocError, Refusal};
-use crate::stop::Stop;
 use std::alloc::Global;
 use svc_graph::Book;
 use svc_plan::{Mode, Plan};
@@ -23,24 +23,24 @@ use svc_token::Token;
 use svc_value::OutOfMemory;
 
 /// The most bytes of a document.
-pub const LONGEST_DOCUMENT: usize = 1_048_576;
+pub const MAX_DOCUMENT_LEN: usize = 1_048_576;
 
 // The answer to a document whose line with this number ends the reading.
-fn stopped(stop: Stop, line: u32) -> DocError
-    ensures { (refusal : Refusal) → result ≡ DocError.Refused refusal → (stop ≡ Stop.Refused refusal.code) × (refusal.line ≡ line) }
+fn error_at(stop: LineError, line: u32) -> DocError
+    ensures { (refusal : Refusal) → result ≡ DocError.Refused refusal → (stop ≡ LineError.Refused refusal.code) × (refusal.line ≡ line) }
 {
     match stop {
-        Stop::Refused(code) => DocError::Refused(Refusal { line, code }),
-        Stop::OutOfMemory => DocError::OutOfMemory,
+        LineError::Refused(code) => DocError::Refused(Refusal { line, code }),
+        LineError::OutOfMemory => DocError::OutOfMemory,
     }
 }
 
 // Reads all lines.
-fn read_lines(alloc: Global, mut reader: Reader, bytes: &[u8]) -> Result<Reader, DocError>
+fn read_lines(alloc: Global, mut parser: Parser, bytes: &[u8]) -> Result<Parser, DocError>
     requires short { length bytes.now ≤ 1048576 }
-    requires start { IsStart (state reader) }
-    ensures read { IfOk result (λ end. Reads reader.mode (state reader) (lines_of bytes.now) (state end)) }
-    ensures refused { IfErr result (λ e. (refusal : Refusal) → e ≡ DocError.Refused refusal → IsRefusalAfter reader.book reader.before reader.mode bytes.now refusal) }
+    requires start { IsStart (state parser) }
+    ensures read { IfOk result (λ end. Reads parser.mode (state parser) (lines_of bytes.now) (state end)) }
+    ensures refused { IfErr result (λ e. (refusal : Refusal) → e ≡ DocError.Refused refusal → IsRefusalAfter parser.book parser.before parser.mode bytes.now refusal) }
 {
     let mut tokens: Vec<Token<'_>> = Vec::new(alloc);
     let mut rest = bytes;
@@ -48,12 +48,12 @@ fn read_lines(alloc: Global, mut reader: Reader, bytes: &[u8]) -> Result<Reader,
     while !rest.is_empty() {
         let (line, after) = first_line(rest);
         count += 1;
-        match reader.take_line(line, &mut tokens) {
+        match parser.take_line(line, &mut tokens) {
             Ok(()) => rest = after,
-            Err(stop) => return Err(stopped(stop, count)),
+            Err(stop) => return Err(error_at(stop, count)),
         }
     }
-    Ok(reader)
+    Ok(parser)
 }
 
 // Reads a document with this book, where every service has one definition, and after so many legs.
@@ -71,22 +71,22 @@ fn read_from(
     ensures refused { IfErr result (λ e. (refusal : Refusal) → e ≡ DocError.Refused refusal → IsRefusalAfter book ended mode bytes.now refusal) }
     ensures not_accepted { IfErr result (λ e. (refusal : Refusal) → e ≡ DocError.Refused refusal → IsAcceptedAfter book ended mode bytes.now → ⊥) }
 {
-    if bytes.len() > LONGEST_DOCUMENT {
+    if bytes.len() > MAX_DOCUMENT_LEN {
         return Err(DocError::Refused(Refusal {
             line: 0,
             code: Code::E01,
         }));
     }
-    match read_lines(alloc, Reader::new(alloc, mode, book, ended), bytes) {
-        Ok(reader) => Ok(Plan {
-            legs: reader.into_legs()?,
+    match read_lines(alloc, Parser::new(alloc, mode, book, ended), bytes) {
+        Ok(parser) => Ok(Plan {
+            legs: parser.into_legs()?,
         }),
         Err(error) => Err(error),
     }
 }
 
-/// Reads a document. `Refused` exactly where it is not accepted in this mode, with its first refused line and the least code
-/// whose condition holds: line 0 and `E01` past 1,048,576 bytes. `OutOfMemory` for want of memory.
+/// Reads a document. `Refused` exactly where it is not accepted in this mode, with its first refused line and the lowest-numbered code
+/// whose condition holds: line 0 and `E01` past 1,048,576 bytes. `OutOfMemory` when memory runs out.
 pub fn read_document(alloc: Global, bytes: &[u8], mode: Mode) -> Result<Plan, DocError>
     ensures plan { IfOk result (λ plan. HasLegs mode bytes.now plan.legs) }
     ensures legs { IfOk result (λ plan. AreLegsAfter [] plan.legs) }

@@ -2,11 +2,11 @@
 ghost use Rattle.std.specs.Prelude.{◌≡◌, option_map};
 ghost use Rattle.document_reading.specs.Reading.{name_at, type_of, type_at, rank_at, equals_at, from_at};
 
-use svc_token::{Keyword, LentName, Token};
+use svc_token::{Keyword, NameRef, Token};
 use svc_value::ValueType;
 
 /// A name and what follows; `None` where something else stands there.
-pub(crate) fn named<'t, 'a>(tokens: &'t [Token<'a>]) -> Option<(LentName<'a>, &'t [Token<'a>])>
+pub(crate) fn named<'t, 'a>(tokens: &'t [Token<'a>]) -> Option<(NameRef<'a>, &'t [Token<'a>])>
     ensures { option_map (λ x. (x.0, x.1.now)) result ≡ name_at tokens.now }
 {
     match tokens {

@@ -1,26 +1,30 @@
 // The statements of lines.
 ghost use Rattle.document_reading.specs.Grammar.{Means};
-ghost use Rattle.document_reading.specs.Reading.{Fills, Answers};
+ghost use Rattle.document_reading.specs.Reading.{Fills, ParsesAs};
 
 use crate::body::body;
 use crate::head::{Head, line_head};
+use crate::line_error::LineError;
 use crate::literal::literal;
 use crate::refusal::Code;
 use crate::statement::Statement;
-use crate::stop::Stop;
 use std::alloc::Global;
 use svc_token::Token;
 
 // What a head says with the tokens that follow it.
-fn filled<'a>(alloc: Global, head: Head<'a>, rest: &[Token<'a>]) -> Result<Statement<'a>, Stop>
-    ensures { Answers (Fills head.entry rest.now) result }
+fn statement_of<'a>(
+    alloc: Global,
+    head: Head<'a>,
+    rest: &[Token<'a>],
+) -> Result<Statement<'a>, LineError>
+    ensures { ParsesAs (Fills head.entry rest.now) result }
 {
     match head {
         Head::Whole(statement) => {
             if rest.is_empty() {
                 Ok(statement)
             } else {
-                Err(Stop::Refused(Code::E04))
+                Err(LineError::Refused(Code::E04))
             }
         }
         Head::Input(name, ty) => Ok(Statement::Input(name, ty, literal(alloc, rest)?)),
@@ -31,14 +35,14 @@ fn filled<'a>(alloc: Global, head: Head<'a>, rest: &[Token<'a>]) -> Result<State
 }
 
 /// What the line of these tokens says; `E04` exactly where it is not in the grammar.
-pub(crate) fn statement<'a>(alloc: Global, tokens: &[Token<'a>]) -> Result<Statement<'a>, Stop>
-    ensures { Answers (Means tokens.now) result }
+pub(crate) fn statement<'a>(alloc: Global, tokens: &[Token<'a>]) -> Result<Statement<'a>, LineError>
+    ensures { ParsesAs (Means tokens.now) result }
 {
     match line_head(tokens) {
         Some(found) => {
             let (head, rest) = found;
-            filled(alloc, head, rest)
+            statement_of(alloc, head, rest)
         }
-        None => Err(Stop::Refused(Code::E04)),
+        None => Err(LineError::Refused(Code::E04)),
     }
 }

@@ -4,7 +4,7 @@ ghost use Rattle.document_reading.specs.Reading.{input_at, derived_at, set_at, d
 
 use crate::front::{equated, named, ranked, sent_from, typed};
 use crate::statement::Statement;
-use svc_token::{Keyword, LentName, Token};
+use svc_token::{Keyword, NameRef, Token};
 use svc_value::ValueType;
 
 /// What a line says up to its literal or its expression.
@@ -13,13 +13,13 @@ pub(crate) enum Head<'a> {
     /// All that it says; nothing may follow.
     Whole(Statement<'a>),
     /// It declares an input of this type; the first value follows.
-    Input(LentName<'a>, ValueType),
+    Input(NameRef<'a>, ValueType),
     /// It declares a derived service of this type and rank; what it computes by follows.
-    Derived(LentName<'a>, ValueType, u64),
+    Derived(NameRef<'a>, ValueType, u64),
     /// It gives an input the value that follows.
-    Set(LentName<'a>),
+    Set(NameRef<'a>),
     /// It gives a derived service what follows to compute by.
-    Define(LentName<'a>),
+    Define(NameRef<'a>),
 }
 
 // What follows `input`, up to the literal.

@@ -5,18 +5,18 @@ ghost use Rattle.std.specs.Str.{IsUtf8};
 ghost use Rattle.document_reading.specs.declared.refusal.Code.{Code};
 ghost use Rattle.document_reading.specs.Document.{lines_of, IsLine, IsUnread};
 ghost use Rattle.document_reading.specs.Grammar.{is_silent, Says};
-ghost use Rattle.document_reading.specs.Reading.{Answers};
+ghost use Rattle.document_reading.specs.Reading.{ParsesAs};
 
 use crate::grammar::statement;
+use crate::line_error::LineError;
 use crate::refusal::Code;
 use crate::statement::Statement;
-use crate::stop::Stop;
 use std::alloc::Global;
 use std::str;
 use svc_token::{CutError, Token, cut, is_blank};
 
 /// The most bytes of a line, without its LF.
-pub const LONGEST_LINE: usize = 4096;
+pub const MAX_LINE_LEN: usize = 4096;
 
 // How many bytes stand before the first LF.
 fn line_len(bytes: &[u8]) -> usize
@@ -62,14 +62,14 @@ fn read_spoken<'a>(
     alloc: Global,
     line: &'a [u8],
     tokens: &mut Vec<Token<'a>>,
-) -> Result<Statement<'a>, Stop>
+) -> Result<Statement<'a>, LineError>
     requires { is_silent line.now ≡ false }
-    ensures { Answers (Says line.now) result }
+    ensures { ParsesAs (Says line.now) result }
 {
     match cut(line, tokens) {
         Ok(()) => statement(alloc, tokens.as_slice()),
-        Err(CutError::Bad) => Err(Stop::Refused(Code::E04)),
-        Err(CutError::OutOfMemory) => Err(Stop::OutOfMemory),
+        Err(CutError::Bad) => Err(LineError::Refused(Code::E04)),
+        Err(CutError::OutOfMemory) => Err(LineError::OutOfMemory),
     }
 }
 
@@ -79,15 +79,15 @@ pub fn read_line<'a>(
     alloc: Global,
     line: &'a [u8],
     tokens: &mut Vec<Token<'a>>,
-) -> Result<Statement<'a>, Stop>
+) -> Result<Statement<'a>, LineError>
     ensures said { IfOk result (λ statement. IsLine line.now statement) }
-    ensures refused { IfErr result (λ stop. (code : Code) → stop ≡ Stop.Refused code → IsUnread line.now code) }
+    ensures refused { IfErr result (λ stop. (code : Code) → stop ≡ LineError.Refused code → IsUnread line.now code) }
 {
-    if line.len() > LONGEST_LINE {
-        return Err(Stop::Refused(Code::E02));
+    if line.len() > MAX_LINE_LEN {
+        return Err(LineError::Refused(Code::E02));
     }
     if !is_text(line) {
-        return Err(Stop::Refused(Code::E03));
+        return Err(LineError::Refused(Code::E03));
     }
     if is_silent(line) {
         return Ok(Statement::Silence);

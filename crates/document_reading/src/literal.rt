@@ -2,10 +2,10 @@
 ghost use Rattle.std.specs.Prelude.{◌≡◌, ◌∷◌, [], option_map};
 ghost use Rattle.svc_token.specs.declared.token.Token.TheVariants.{Quoted};
 ghost use Rattle.document_reading.specs.Grammar.{IsLiteral};
-ghost use Rattle.document_reading.specs.Reading.{whole, negative, number_of, quoted_of, Answers};
+ghost use Rattle.document_reading.specs.Reading.{whole, negative, literal_value, quoted_of, ParsesAs};
 
+use crate::line_error::LineError;
 use crate::refusal::Code;
-use crate::stop::Stop;
 use std::alloc::Global;
 use std::str;
 use svc_token::Token;
@@ -39,7 +39,7 @@ fn negative(n: u64) -> Option<Value>
 
 // The value of the number that these tokens are, with its sign.
 fn number(tokens: &[Token<'_>]) -> Option<Value>
-    ensures { result ≡ number_of tokens.now }
+    ensures { result ≡ literal_value tokens.now }
 {
     match tokens {
         [number] => match number {
@@ -68,29 +68,29 @@ fn quoted<'a>(tokens: &[Token<'a>]) -> Option<&'a [u8]>
 }
 
 // The value of a quoted text.
-fn unquoted(alloc: Global, raw: &[u8]) -> Result<Value, Stop>
-    ensures { Answers (IsLiteral (Quoted raw.now ∷ [])) result }
+fn text_value(alloc: Global, raw: &[u8]) -> Result<Value, LineError>
+    ensures { ParsesAs (IsLiteral (Quoted raw.now ∷ [])) result }
 {
     let Ok(text) = str::from_utf8(raw) else {
-        return Err(Stop::Refused(Code::E04));
+        return Err(LineError::Refused(Code::E04));
     };
     match read_literal(alloc, text) {
         Ok(Value::Words(text)) => Ok(Value::Words(text)),
-        Ok(_) => Err(Stop::Refused(Code::E04)),
-        Err(LiteralError::Bad { .. }) => Err(Stop::Refused(Code::E04)),
-        Err(LiteralError::OutOfMemory) => Err(Stop::OutOfMemory),
+        Ok(_) => Err(LineError::Refused(Code::E04)),
+        Err(LiteralError::Bad { .. }) => Err(LineError::Refused(Code::E04)),
+        Err(LiteralError::OutOfMemory) => Err(LineError::OutOfMemory),
     }
 }
 
 /// The value of the literal that these tokens are; `E04` exactly where they are none.
-pub(crate) fn literal(alloc: Global, tokens: &[Token<'_>]) -> Result<Value, Stop>
-    ensures { Answers (IsLiteral tokens.now) result }
+pub(crate) fn literal(alloc: Global, tokens: &[Token<'_>]) -> Result<Value, LineError>
+    ensures { ParsesAs (IsLiteral tokens.now) result }
 {
     match quoted(tokens) {
-        Some(raw) => unquoted(alloc, raw),
+        Some(raw) => text_value(alloc, raw),
         None => match number(tokens) {
             Some(value) => Ok(value),
-            None => Err(Stop::Refused(Code::E04)),
+            None => Err(LineError::Refused(Code::E04)),
         },
     }
 }

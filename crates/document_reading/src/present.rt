@@ -2,9 +2,9 @@
 ghost use Rattle.std.specs.Prelude.{◌≡◌, ◌<◌, ◌≤◌, ◌+◌, ◌++◌, ◌∷◌, [], Some, None, take, length, IfOk, OnOk};
 ghost use Rattle.svc_graph.specs.Book.{IsBook};
 ghost use Rattle.svc_graph.specs.Central.{AreBorn};
-ghost use Rattle.svc_graph.specs.History.{changed, declared_row, history_of, place_of, present};
+ghost use Rattle.svc_graph.specs.History.{rows_after_change, declared_row, history_of, find_service, present};
 ghost use Rattle.svc_graph.specs.Lent.{definition_lent, formula_lent};
-ghost use Rattle.svc_plan.specs.Rows.{IsAcceptedAfter, present_rows};
+ghost use Rattle.svc_plan.specs.Rows.{AcceptsChange, present_rows};
 ghost use Rattle.document_reading.specs.Present.{bare_rows, half_present};
 
 use std::alloc::Global;
@@ -48,7 +48,7 @@ fn last(alloc: Global, book: &Book, id: ServiceId) -> Result<Definition, OutOfMe
 
 // Declares a service that can be declared.
 fn declare(book: &mut Book, name: &str, kind: Kind) -> Result<(), OutOfMemory>
-    requires new { place_of book.old name.now ≡ None }
+    requires new { find_service book.old name.now ≡ None }
     requires room { length book.old < 64 }
     requires rank { kind.rank ≤ 1000 }
     ensures { OnOk result (book.new ≡ book.old ++ declared_row name.now kind.rank kind.ty ∷ []) }
@@ -83,8 +83,8 @@ fn declare_all(alloc: Global, book: &Book) -> Result<Book, OutOfMemory>
 
 // Makes a change.
 fn accept(book: &mut Book, id: ServiceId, change: Change) -> Result<(), OutOfMemory>
-    requires { IsAcceptedAfter book.old id change }
-    ensures { OnOk result (book.new ≡ changed book.old id change) }
+    requires { AcceptsChange book.old id change }
+    ensures { OnOk result (book.new ≡ rows_after_change book.old id change) }
 {
     match book.accept(id, change) {
         Ok(()) => Ok(()),

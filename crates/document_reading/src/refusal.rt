@@ -60,9 +60,9 @@ pub enum Code {
 /// Why a document is not read.
 #[derive(Clone, Copy, Debug, PartialEq, Eq)]
 pub enum DocError {
-    /// The document is not accepted: its first refused line, with the least code.
+    /// The document is not accepted: its first refused line, with the lowest-numbered code.
     Refused(Refusal),
-    /// Want of memory.
+    /// Out of memory.
     OutOfMemory,
 }
 

@@ -1,10 +1,10 @@
 // What one line says.
 use svc_expr::Expr;
-use svc_token::LentName;
+use svc_token::NameRef;
 use svc_value::{ListOf, Names, Value, ValueType};
 
 /// Names, lent from a document.
-pub type LentNames<'a> = ListOf<LentName<'a>>;
+pub type NameRefs<'a> = ListOf<NameRef<'a>>;
 
 /// An expression with the names that stand in it and those of its members.
 #[derive(Debug, Drop)]
@@ -14,7 +14,7 @@ pub struct NamedFormula<'a> {
     /// The distinct names of the expression, in the order of first mention.
     pub names: Names,
     /// The members.
-    pub members: LentNames<'a>,
+    pub members: NameRefs<'a>,
 }
 
 /// What a line gives a derived service to compute by.
@@ -32,24 +32,24 @@ pub enum Statement<'a> {
     /// The line is empty, blank or a comment.
     Silence,
     /// It declares an input of this type, with its first value.
-    Input(LentName<'a>, ValueType, Value),
+    Input(NameRef<'a>, ValueType, Value),
     /// It declares a derived service of this type and rank, with what it computes by first. A rank above 2^64 - 1 counts as
     /// that number.
-    Derived(LentName<'a>, ValueType, u64, Body<'a>),
+    Derived(NameRef<'a>, ValueType, u64, Body<'a>),
     /// It gives an input another value.
-    Set(LentName<'a>, Value),
+    Set(NameRef<'a>, Value),
     /// It gives the first service the second as a member more.
-    Add(LentName<'a>, LentName<'a>),
+    Add(NameRef<'a>, NameRef<'a>),
     /// It takes from the first service the second as a member.
-    Drop(LentName<'a>, LentName<'a>),
+    Drop(NameRef<'a>, NameRef<'a>),
     /// It gives a derived service something else to compute by.
-    Define(LentName<'a>, Body<'a>),
+    Define(NameRef<'a>, Body<'a>),
     /// It ends a leg.
     Settle,
     /// The service is to do its next change.
-    Do(LentName<'a>),
+    Do(NameRef<'a>),
     /// The first service is to take the next frame of the second.
-    Take(LentName<'a>, LentName<'a>),
+    Take(NameRef<'a>, NameRef<'a>),
     /// The service is to take one turn.
-    Turn(LentName<'a>),
+    Turn(NameRef<'a>),
 }

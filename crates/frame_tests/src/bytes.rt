@@ -2,8 +2,8 @@ use std::alloc::Global;
 use std::test::Fail;
 use svc_value::{Clock, Fault, ServiceId, Value, ValueReason};
 use wire_frame::{
-    Frame, FrameError, FrameReason, PlaceClock, read_frame, read_lent, write_frame, write_sources,
-    write_value,
+    Frame, FrameError, FrameReason, PlaceClock, read_frame, read_frame_ref, write_frame,
+    write_sources, write_value,
 };
 
 const BAD: [(&[u8], usize, FrameReason); 25] = [
@@ -171,7 +171,7 @@ fn frames_are_written_as_they_are_read(rt: HostRuntime) -> Result<(), Fail> {
 
 // What is refused of the bytes where their places are lent, or how many bytes the frame has.
 fn lent_length(alloc: Global, bytes: &[u8]) -> Result<usize, FrameError> {
-    let (_, len) = read_lent(alloc, bytes)?;
+    let (_, len) = read_frame_ref(alloc, bytes)?;
     Ok(len)
 }
 

@@ -1,13 +1,13 @@
 use std::test::Fail;
 use svc_value::{Fault, ServiceId, Value};
-use wire_frame::{FrameIn, PlaceClock, read_lent};
+use wire_frame::{FrameRef, PlaceClock, read_frame_ref};
 
 #[test]
 fn lent_sources_have_their_keys(rt: HostRuntime) -> Result<(), Fail> {
     let bytes = [3, 0, 0, 0, 9, 2, 0, 3, 1, 0, 0xff];
-    let (frame, len) = read_lent(rt.alloc(), &bytes)?;
+    let (frame, len) = read_frame_ref(rt.alloc(), &bytes)?;
     assert_eq!(rt; len, 10);
-    let FrameIn::Sources(announced) = frame else {
+    let FrameRef::Sources(announced) = frame else {
         return Err("no sources".into());
     };
     let epoch = announced.epoch;
@@ -29,9 +29,9 @@ fn lent_sources_have_their_keys(rt: HostRuntime) -> Result<(), Fail> {
 #[test]
 fn lent_values_have_their_parts(rt: HostRuntime) -> Result<(), Fail> {
     let bytes = [5, 0, 0, 0, 9, 3, 1, 2, 0, 0, 0, 0, 1, 63, 1, 2, 3, 4, 0xff];
-    let (frame, len) = read_lent(rt.alloc(), &bytes)?;
+    let (frame, len) = read_frame_ref(rt.alloc(), &bytes)?;
     assert_eq!(rt; len, 18);
-    let FrameIn::Changed(delta) = frame else {
+    let FrameRef::Changed(delta) = frame else {
         return Err("no value".into());
     };
     let epoch = delta.epoch;

@@ -1,7 +1,7 @@
 -- Filling an array from a place of a list on.
 use Rattle.std.proofs.Common.{◌≡◌, ◌≤◌, zero, suc, ◌∙◌, sym, ap, ℕ, ◌+◌, ◌-◌, ◌<◌, min, List, [], ◌∷◌, ◌++◌, length, get_or, set, take, drop, arith}
 use Rattle.std.proofs.lemmas.List.{length-drop, get_or-drop, take_more, take_more_set, take-take, take_min}
-use Rattle.wire_frame.specs.Stream.{framed}
+use Rattle.wire_frame.specs.Stream.{framed_item}
 
 pub filled_next : (bytes want : List ℕ) (at i b : ℕ) → i < length bytes → at + i < length want → b ≡ get_or want (at + i) 0 →
     take i bytes ≡ take i (drop at want) → take (i + 1) (set bytes i b) ≡ take (i + 1) (drop at want)
@@ -16,7 +16,7 @@ filled bytes want at count is e =
     ap (take 64) (e ∙ ap (λ n. take n (drop at want)) m ∙ take_min 64 (drop at want)) ∙ take-take 64 64 (drop at want) (omega arith)
 
 -- behind the length stand the bytes of the item
-pub drop-framed : (item : List ℕ) (at : ℕ) → 2 ≤ at → drop at (framed item) ≡ drop (at - 2) item
+pub drop-framed : (item : List ℕ) (at : ℕ) → 2 ≤ at → drop at (framed_item item) ≡ drop (at - 2) item
 drop-framed item zero le = absurd (omega (arith, le))
 drop-framed item (suc zero) le = absurd (omega (arith, le))
 drop-framed item (suc (suc k)) le = ap (λ n. drop n item) (omega arith)

@@ -1,6 +1,6 @@
 -- A stream cut into pieces, and where its items stand.
 use Rattle.std.specs.Prelude.{◌≡◌, ℕ, zero, suc, ◌-◌, List, [], ◌∷◌, ◌++◌, length, take, drop, All, flat_map}
-use Rattle.wire_frame.specs.Stream.{framed, items_of, IsItem}
+use Rattle.wire_frame.specs.Stream.{framed_item, items_of, IsItem}
 use Rattle.wire_frame.specs.Cut.{past}
 
 -- a list cut after each 64 bytes, into at most so many pieces
@@ -14,16 +14,16 @@ unfoldable pub cuts_of : List ℕ → List (List ℕ)
 cuts_of bytes = cuts_in (length bytes) bytes
 
 -- the bytes of pieces
-unfoldable pub joined : List (List ℕ) → List ℕ
-joined pieces = flat_map (λ piece. piece) pieces
+unfoldable pub bytes_of_pieces : List (List ℕ) → List ℕ
+bytes_of_pieces pieces = flat_map (λ piece. piece) pieces
 
 -- the pieces of items, none with bytes of two
 abbrev pub pieces_of : List (List ℕ) → List (List ℕ)
-pieces_of items = flat_map (λ item. cuts_of (framed item)) items
+pieces_of items = flat_map (λ item. cuts_of (framed_item item)) items
 
 -- the items of what was pushed and what is kept
 abbrev pub sent_items : List (List ℕ) → List ℕ → List (List ℕ)
-sent_items pieces kept = items_of (joined pieces ++ kept)
+sent_items pieces kept = items_of (bytes_of_pieces pieces ++ kept)
 
 -- these pieces, followed by those of what is kept, are the pieces of items
 pub record IsSent (pieces : List (List ℕ)) (kept : List ℕ) : Type 0 where
@@ -36,16 +36,16 @@ before bytes held = take (length bytes - length held) bytes
 
 -- the items of what was popped and is not held
 abbrev pub received_items : List (List ℕ) → List ℕ → List (List ℕ)
-received_items pieces held = items_of (before (joined pieces) held)
+received_items pieces held = items_of (before (bytes_of_pieces pieces) held)
 
 -- the bytes of these pieces are items and then what is held
 pub record IsRead (pieces : List (List ℕ)) (held : List ℕ) : Type 0 where
-  pub whole : joined pieces ≡ flat_map framed (received_items pieces held) ++ held
+  pub whole : bytes_of_pieces pieces ≡ flat_map framed_item (received_items pieces held) ++ held
   pub each : All IsItem (received_items pieces held)
 
 -- these bytes are whole items
 pub record IsWhole (bytes : List ℕ) : Type 0 where
-  pub whole : bytes ≡ flat_map framed (items_of bytes)
+  pub whole : bytes ≡ flat_map framed_item (items_of bytes)
   pub each : All IsItem (items_of bytes)
 
 -- the new list has the old one in front
@@ -55,4 +55,4 @@ pub record Grows (old new : List (List ℕ)) : Type 0 where
 
 -- the offset of what is held
 abbrev pub place_of : List (List ℕ) → List ℕ → ℕ
-place_of pieces held = past 0 (length (joined pieces) - length held)
+place_of pieces held = past 0 (length (bytes_of_pieces pieces) - length held)

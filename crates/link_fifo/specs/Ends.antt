@@ -17,8 +17,8 @@ abbrev pub pieces_sent : PieceOut → List (List ℕ)
 pieces_sent end = ring_sent end.out
 
 -- the bytes that are kept: what is left of the last item behind its length
-abbrev pub kept : PieceOut → List ℕ
-kept end = bytes_kept end.kept
+abbrev pub kept_bytes : PieceOut → List ℕ
+kept_bytes end = bytes_kept end.kept
 
 -- how many slots the end knows to be free
 abbrev pub room : PieceOut → ℕ
@@ -33,16 +33,16 @@ abbrev pub pieces_received : PieceIn → List (List ℕ)
 pieces_received end = ring_received end.into
 
 -- the bytes that were popped and are not answered
-abbrev pub held : PieceIn → List ℕ
-held end = end.cutter.held
+abbrev pub held_bytes : PieceIn → List ℕ
+held_bytes end = end.cutter.held
 
 -- the offset of the first of them in all that was popped
 abbrev pub offset_of : PieceIn → ℕ
 offset_of end = end.cutter.offset
 
 -- the pieces that the end knows to wait in the ring
-abbrev pub known : PieceIn → List (List ℕ)
-known end = ring_known end.into
+abbrev pub known_pieces : PieceIn → List (List ℕ)
+known_pieces end = ring_known end.into
 
 -- the two ends of one ring
 abbrev pub OneStream : PieceOut → PieceIn → Type 0

@@ -1,6 +1,6 @@
 // Pieces of an item behind its length.
 ghost use Rattle.std.specs.Prelude.{◌≡◌, ◌+◌, ◌<◌, ◌≤◌, length, take, drop, slice_index};
-ghost use Rattle.wire_frame.specs.Stream.{framed};
+ghost use Rattle.wire_frame.specs.Stream.{framed_item};
 
 use crate::Piece;
 
@@ -8,7 +8,7 @@ use crate::Piece;
 pub(crate) fn byte_at(item: &[u8], at: usize) -> u8
     requires fits { length item.now ≤ 585 }
     requires within { at < length item.now + 2 }
-    ensures { result ≡ slice_index (framed item.now) at }
+    ensures { result ≡ slice_index (framed_item item.now) at }
 {
     let len = item.len();
     if at == 0 {
@@ -24,7 +24,7 @@ pub(crate) fn byte_at(item: &[u8], at: usize) -> u8
 fn piece_from_length(item: &[u8], at: usize) -> Piece
     requires fits { length item.now ≤ 585 }
     requires within { at < length item.now + 2 }
-    ensures { result ≡ take 64 (drop at (framed item.now)) }
+    ensures { result ≡ take 64 (drop at (framed_item item.now)) }
 {
     let count = (item.len() + 2 - at).min(64);
     let mut bytes = [0; 64];
@@ -38,7 +38,7 @@ fn piece_from_length(item: &[u8], at: usize) -> Piece
 pub(crate) fn piece_at(item: &[u8], at: usize) -> Piece
     requires fits { length item.now ≤ 585 }
     requires within { at < length item.now + 2 }
-    ensures { result ≡ take 64 (drop at (framed item.now)) }
+    ensures { result ≡ take 64 (drop at (framed_item item.now)) }
 {
     if at < 2 {
         return piece_from_length(item, at);

@@ -7,7 +7,7 @@ use wire_frame::CutError;
 pub enum ItemError {
     /// The length at the offset `at` of the bytes popped is above 585.
     Length { at: u64 },
-    /// Want of memory.
+    /// Out of memory.
     OutOfMemory,
 }
 

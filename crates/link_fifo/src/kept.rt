@@ -15,7 +15,7 @@ pub struct Kept {
 
 impl Kept {
     ghost use Rattle.std.specs.Prelude.{◌≡◌, ◌≤◌, ◌++◌, [], ◌<◌, IsTrue, IsFalse, length};
-    ghost use Rattle.wire_frame.specs.Stream.{framed};
+    ghost use Rattle.wire_frame.specs.Stream.{framed_item};
     ghost use Rattle.link_fifo.specs.Ring.{ring_sent, ring_room, SameOut};
     ghost use Rattle.link_fifo.specs.Cuts.{cuts_of, Grows};
     ghost use Rattle.link_fifo.specs.Kept.{left_of};
@@ -23,7 +23,7 @@ impl Kept {
     /// All of an item.
     pub fn whole(item: Bytes) -> Kept
         requires { length item ≤ 585 }
-        ensures left { left_of result ≡ framed item }
+        ensures left { left_of result ≡ framed_item item }
         ensures item { result.item ≡ item }
     {
         Kept { item, at: 0 }

@@ -22,7 +22,7 @@ mod zeros;
 pub use errors::ItemError;
 pub use link::{LinkIn, LinkOut};
 pub use memory_link::MemoryLink;
-pub use piece::{LONGEST_PIECE, Piece};
+pub use piece::{MAX_PIECE_LEN, Piece};
 pub use piece_in::PieceIn;
 pub use piece_out::PieceOut;
 pub use rest::{Rest, rejoin_pieces};

@@ -4,7 +4,7 @@ use crate::zeros::with_zeros;
 use std::marker::Model;
 
 /// The most bytes of a piece.
-pub const LONGEST_PIECE: usize = 64;
+pub const MAX_PIECE_LEN: usize = 64;
 
 /// From 1 to 64 bytes, seen as the bytes.
 #[derive(Clone, Copy)]
@@ -37,7 +37,7 @@ impl Piece {
         requires { 0 < length bytes.now }
         ensures { result ≡ take 64 bytes.now }
     {
-        let len = bytes.len().min(LONGEST_PIECE);
+        let len = bytes.len().min(MAX_PIECE_LEN);
         Piece {
             len,
             bytes: with_zeros(&bytes[..len]),

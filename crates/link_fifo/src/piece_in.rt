@@ -20,18 +20,18 @@ pub struct PieceIn {
 
 impl PieceIn {
     ghost use Rattle.std.specs.Prelude.{◌≡◌, ◌+◌, ◌<◌, ◌≤◌, ◌++◌, [], ◌∷◌, ℕ, length, flat_map, Ok, Err, Some, None, OnOk, OnErr, IfOk, IfErr, IfSome, IsTrue, IsFalse, true, false};
-    ghost use Rattle.wire_frame.specs.Stream.{framed, IsItem, IsPartial, IsTooLong};
+    ghost use Rattle.wire_frame.specs.Stream.{framed_item, IsItem, IsPartial, IsTooLong};
     ghost use Rattle.wire_frame.specs.Cut.{past};
     ghost use Rattle.link_fifo.specs.Ring.{ring_received, ring_known, SameIn};
-    ghost use Rattle.link_fifo.specs.Cuts.{joined, Grows};
-    ghost use Rattle.link_fifo.specs.Ends.{items_received, pieces_received, held, offset_of, known, IsReaderOf, SameReader};
+    ghost use Rattle.link_fifo.specs.Cuts.{bytes_of_pieces, Grows};
+    ghost use Rattle.link_fifo.specs.Ends.{items_received, pieces_received, held_bytes, offset_of, known_pieces, IsReaderOf, SameReader};
 
     /// An end over `into`, which has received no piece; it has given no item, belongs to the ring of `into`, and takes its
     /// memory from `alloc`.
     pub fn new(alloc: Global, into: RingIn) -> PieceIn
         requires { ring_received into ≡ [] }
         ensures received { items_received result ≡ [] }
-        ensures held { held result ≡ [] }
+        ensures held { held_bytes result ≡ [] }
         ensures ring { IsReaderOf into result }
     {
         PieceIn {
@@ -43,13 +43,13 @@ impl PieceIn {
     /// The next item of what is held.
     fn next(&mut self) -> Result<Option<Bytes>, CutError>
         ensures item { IfOk result (λ o. IfSome o (λ item. items_received self.new ≡ items_received self.old ++ item ∷ [])) }
-        ensures front { IfOk result (λ o. IfSome o (λ item. held self.old ≡ framed item ++ held self.new)) }
-        ensures none { result ≡ Ok None → IsPartial (held self.old) × (items_received self.new ≡ items_received self.old) × (held self.new ≡ held self.old) }
-        ensures err { OnErr result ((items_received self.new ≡ items_received self.old) × (held self.new ≡ held self.old)) }
+        ensures front { IfOk result (λ o. IfSome o (λ item. held_bytes self.old ≡ framed_item item ++ held_bytes self.new)) }
+        ensures none { result ≡ Ok None → IsPartial (held_bytes self.old) × (items_received self.new ≡ items_received self.old) × (held_bytes self.new ≡ held_bytes self.old) }
+        ensures err { OnErr result ((items_received self.new ≡ items_received self.old) × (held_bytes self.new ≡ held_bytes self.old)) }
         ensures place { OnErr result (self.new.cutter ≡ self.old.cutter) }
         ensures same { result ≡ Ok None → self.new.cutter ≡ self.old.cutter }
-        ensures too_long { IsTooLong (held self.old) → result ≡ Err (CutError.Length (offset_of self.old)) }
-        ensures refused { (at : ℕ) → result ≡ Err (CutError.Length at) → (at ≡ offset_of self.old) × IsTooLong (held self.old) }
+        ensures too_long { IsTooLong (held_bytes self.old) → result ≡ Err (CutError.Length (offset_of self.old)) }
+        ensures refused { (at : ℕ) → result ≡ Err (CutError.Length at) → (at ≡ offset_of self.old) × IsTooLong (held_bytes self.old) }
         ensures ring { self.new.into ≡ self.old.into }
     {
         match self.cutter.next() {
@@ -63,9 +63,9 @@ impl PieceIn {
     #[tactic(auto, using(crate::proofs::Grown::grows_not))]
     fn pop(&mut self) -> Result<bool, OutOfMemory>
         ensures received { items_received self.new ≡ items_received self.old }
-        ensures more { result ≡ Ok true → length (held self.old) < length (held self.new) }
-        ensures none { result ≡ Ok false → (known self.new ≡ []) × (held self.new ≡ held self.old) }
-        ensures err { OnErr result (held self.new ≡ held self.old) }
+        ensures more { result ≡ Ok true → length (held_bytes self.old) < length (held_bytes self.new) }
+        ensures none { result ≡ Ok false → (known_pieces self.new ≡ []) × (held_bytes self.new ≡ held_bytes self.old) }
+        ensures err { OnErr result (held_bytes self.new ≡ held_bytes self.old) }
         ensures place { offset_of self.new ≡ offset_of self.old }
         ensures grown { Grows (pieces_received self.old) (pieces_received self.new) }
         ensures ring { SameReader self.old self.new }
@@ -86,11 +86,11 @@ impl PieceIn {
     #[tactic(auto, using(crate::proofs::Grown::grows_not, crate::proofs::Grown::grows_twice))]
     pub fn pop_item(&mut self) -> Result<Option<Bytes>, ItemError>
         ensures item { IfOk result (λ o. IfSome o (λ item. items_received self.new ≡ items_received self.old ++ item ∷ [])) }
-        ensures none { result ≡ Ok None → (items_received self.new ≡ items_received self.old) × (known self.new ≡ []) × IsPartial (held self.new) }
+        ensures none { result ≡ Ok None → (items_received self.new ≡ items_received self.old) × (known_pieces self.new ≡ []) × IsPartial (held_bytes self.new) }
         ensures err { OnErr result (items_received self.new ≡ items_received self.old) }
-        ensures refused { (at : ℕ) → result ≡ Err (ItemError.Length at) → (at ≡ offset_of self.new) × IsTooLong (held self.new) }
-        ensures again { IsTooLong (held self.old) → result ≡ Err (ItemError.Length (offset_of self.old)) }
-        ensures bytes { joined (pieces_received self.new) ≡ flat_map framed (items_received self.new) ++ held self.new }
+        ensures refused { (at : ℕ) → result ≡ Err (ItemError.Length at) → (at ≡ offset_of self.new) × IsTooLong (held_bytes self.new) }
+        ensures again { IsTooLong (held_bytes self.old) → result ≡ Err (ItemError.Length (offset_of self.old)) }
+        ensures bytes { bytes_of_pieces (pieces_received self.new) ≡ flat_map framed_item (items_received self.new) ++ held_bytes self.new }
         ensures grown { Grows (pieces_received self.old) (pieces_received self.new) }
         ensures ring { SameReader self.old self.new }
     {

@@ -20,13 +20,13 @@ impl PieceOut {
     ghost use Rattle.std.specs.Prelude.{◌≡◌, ◌+◌, ◌<◌, ◌≤◌, ◌++◌, [], ◌∷◌, ◌↔◌, length, OnOk, OnErr, IfErr, IsTrue, IsFalse};
     ghost use Rattle.link_fifo.specs.Ring.{ring_sent};
     ghost use Rattle.link_fifo.specs.Cuts.{Grows, cuts_of, pieces_of};
-    ghost use Rattle.link_fifo.specs.Ends.{items_sent, pieces_sent, kept, room, IsWriterOf, SameWriter};
+    ghost use Rattle.link_fifo.specs.Ends.{items_sent, pieces_sent, kept_bytes, room, IsWriterOf, SameWriter};
 
     /// An end over `out`, which has sent no piece; it has taken no item, and belongs to the ring of `out`.
     pub fn new(out: RingOut) -> PieceOut
         requires { ring_sent out ≡ [] }
         ensures sent { items_sent result ≡ [] }
-        ensures kept { kept result ≡ [] }
+        ensures kept { kept_bytes result ≡ [] }
         ensures ring { IsWriterOf out result }
     {
         PieceOut { out, kept: None }
@@ -37,9 +37,9 @@ impl PieceOut {
     #[tactic(auto, using(crate::proofs::Grown::grows_not))]
     pub fn flush(&mut self) -> bool
         ensures sent { items_sent self.new ≡ items_sent self.old }
-        ensures cut { pieces_sent self.new ++ cuts_of (kept self.new) ≡ pieces_of (items_sent self.new) }
-        ensures done { IsTrue result → kept self.new ≡ [] }
-        ensures left { IsFalse result → 0 < length (kept self.new) }
+        ensures cut { pieces_sent self.new ++ cuts_of (kept_bytes self.new) ≡ pieces_of (items_sent self.new) }
+        ensures done { IsTrue result → kept_bytes self.new ≡ [] }
+        ensures left { IsFalse result → 0 < length (kept_bytes self.new) }
         ensures full { IsFalse result → room self.new ≡ 0 }
         ensures grown { Grows (pieces_sent self.old) (pieces_sent self.new) }
         ensures ring { SameWriter self.old self.new }
@@ -58,11 +58,11 @@ impl PieceOut {
         requires { length item ≤ 585 }
         ensures appended { OnOk result (items_sent self.new ≡ items_sent self.old ++ item ∷ []) }
         ensures handed_back { IfErr result (λ back. back ≡ item) }
-        ensures cut { pieces_sent self.new ++ cuts_of (kept self.new) ≡ pieces_of (items_sent self.new) }
+        ensures cut { pieces_sent self.new ++ cuts_of (kept_bytes self.new) ≡ pieces_of (items_sent self.new) }
         ensures same { OnErr result (items_sent self.new ≡ items_sent self.old) }
-        ensures left { OnErr result (0 < length (kept self.new)) }
-        ensures moved { OnOk result (length (kept self.new) ≤ length item + 2) }
-        ensures full { 0 < length (kept self.new) → room self.new ≡ 0 }
+        ensures left { OnErr result (0 < length (kept_bytes self.new)) }
+        ensures moved { OnOk result (length (kept_bytes self.new) ≤ length item + 2) }
+        ensures full { 0 < length (kept_bytes self.new) → room self.new ≡ 0 }
         ensures grown { Grows (pieces_sent self.old) (pieces_sent self.new) }
         ensures ring { SameWriter self.old self.new }
     {
@@ -76,10 +76,10 @@ impl PieceOut {
     // Takes an item, where nothing is kept.
     fn start(&mut self, item: Bytes)
         requires fits { length item ≤ 585 }
-        requires none { kept self.old ≡ [] }
+        requires none { kept_bytes self.old ≡ [] }
         ensures appended { items_sent self.new ≡ items_sent self.old ++ item ∷ [] }
-        ensures moved { length (kept self.new) ≤ length item + 2 }
-        ensures full { 0 < length (kept self.new) → room self.new ≡ 0 }
+        ensures moved { length (kept_bytes self.new) ≤ length item + 2 }
+        ensures full { 0 < length (kept_bytes self.new) → room self.new ≡ 0 }
         ensures grown { Grows (pieces_sent self.old) (pieces_sent self.new) }
         ensures ring { SameWriter self.old self.new }
     {

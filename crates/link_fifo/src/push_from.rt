@@ -1,6 +1,6 @@
 // Pushing the pieces of an item.
 ghost use Rattle.std.specs.Prelude.{◌≡◌, ◌+◌, ◌<◌, ◌≤◌, ◌++◌, ◌⊎◌, length, drop};
-ghost use Rattle.wire_frame.specs.Stream.{framed};
+ghost use Rattle.wire_frame.specs.Stream.{framed_item};
 ghost use Rattle.link_fifo.specs.Ring.{ring_sent, ring_room, SameOut};
 ghost use Rattle.link_fifo.specs.Cuts.{cuts_of, Grows};
 
@@ -11,7 +11,7 @@ use crate::bytes_at::piece_at;
 /// Pushes the pieces that fit, and answers where the next one begins.
 pub(crate) fn push_from(item: &[u8], from: usize, out: &mut RingOut) -> usize
     requires { length item.now ≤ 585 }
-    ensures sent { ring_sent out.new ++ cuts_of (drop result (framed item.now)) ≡ ring_sent out.old ++ cuts_of (drop from (framed item.now)) }
+    ensures sent { ring_sent out.new ++ cuts_of (drop result (framed_item item.now)) ≡ ring_sent out.old ++ cuts_of (drop from (framed_item item.now)) }
     ensures full { (length item.now + 2 ≤ result) ⊎ (ring_room out.new ≡ 0) }
     ensures grown { Grows (ring_sent out.old) (ring_sent out.new) }
     ensures forward { from ≤ result }

@@ -94,12 +94,12 @@ impl RingIn {
 impl RingOut {
     ghost use Rattle.std.specs.Prelude.{◌≡◌, ◌++◌, OnOk, ℕ, List};
     ghost use Rattle.link_fifo.specs.Ring.{ring_sent, ring_received, OneRing};
-    ghost use Rattle.link_fifo.specs.Cuts.{joined};
+    ghost use Rattle.link_fifo.specs.Cuts.{bytes_of_pieces};
 
     /// Feeds the pieces that lie between the ends. What stood before the held bytes stands before them still.
     pub(crate) fn pour_into(self, into: RingIn, cutter: &mut Cutter) -> Result<(), OutOfMemory>
         requires { OneRing self into }
-        ensures { OnOk result ((lead : List ℕ) → joined (ring_received into) ≡ lead ++ cutter.old.held → joined (ring_sent self) ≡ lead ++ cutter.new.held) }
+        ensures { OnOk result ((lead : List ℕ) → bytes_of_pieces (ring_received into) ≡ lead ++ cutter.old.held → bytes_of_pieces (ring_sent self) ≡ lead ++ cutter.new.held) }
     {
         let RingOut { mut producer } = self;
         let RingIn { mut consumer } = into;

@@ -1,15 +1,15 @@
 -- After a change no slot counts more.
 use Rattle.std.proofs.Common.{ℕ, zero, suc, ◌≤◌, ◌+◌, ◌==◌, Bool, true, false, cond, filter, List, [], ◌∷◌, ◌++◌, length, Option, Some, None, refl, subst, arith, inl, inr}
-use Rattle.propagation.specs.Words.{Has, is_among}
+use Rattle.propagation.specs.Lists.{Has, is_among}
 use Rattle.propagation.specs.Logs.{Emission}
-use Rattle.service_machine.specs.States.{Head, Slot, slot_at, cut, cut_head, is_live, number_of}
+use Rattle.service_machine.specs.States.{Head, Slot, slot_at, cut, cut_head, is_live, number_at_head}
 use Rattle.service_machine.specs.Steps.{cut_to, cut_others}
 use Rattle.node_core.specs.declared.entry.Entry.{Entry}
 use Rattle.node_core.specs.View.{AreCounted}
 
 -- the number of its head and what waits behind it
 abbrev count : {V : Type 0} → Slot V → ℕ
-count s = number_of s.head + length s.queue
+count s = number_at_head s.head + length s.queue
 
 -- of each slot, and of each place
 each_counted : {V : Type 0} (entries : List Entry) (slots : List (Slot V)) → AreCounted entries slots → (s : Slot V) → Has slots s → count s ≤ length entries
@@ -31,11 +31,11 @@ fewer {A} p (x ∷ xs) = go (p x) (fewer p xs)
     go true h = omega (arith, h)
     go false h = omega (arith, h)
 
-head_cut : {V : Type 0} (edge : Option ℕ) (c : ℕ) (h : Option (Head V)) → number_of (cut_head edge c h) ≤ number_of h
+head_cut : {V : Type 0} (edge : Option ℕ) (c : ℕ) (h : Option (Head V)) → number_at_head (cut_head edge c h) ≤ number_at_head h
 head_cut edge c None = omega arith
 head_cut {V} edge c (Some h) = go (is_live edge c h.epoch)
   where
-    go : (b : Bool) → number_of (cond b (Some h) None) ≤ h.number
+    go : (b : Bool) → number_at_head (cond b (Some h) None) ≤ h.number
     go true = omega arith
     go false = omega arith
 

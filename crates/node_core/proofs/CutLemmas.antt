@@ -2,7 +2,7 @@
 use Rattle.std.proofs.Common.{◌≡◌, ◌≢◌, ℕ, zero, suc, ◌<◌, ◌≤◌, ◌==◌, Bool, true, false, cond, List, [], ◌∷◌, ◌++◌, length, take, drop, slice_index_or, Some, None, refl, sym, ap, subst, ◌∙◌, arith, append_assoc, inl, inr, eqb-true, eq-eqb}
 use Rattle.std.specs.List.{remove}
 use Rattle.std.proofs.lemmas.Bool.{cond-true, cond-false, eqb-false}
-use Rattle.propagation.specs.Words.{Apart, Has, is_among}
+use Rattle.propagation.specs.Lists.{AreDistinct, Has, is_among}
 use Rattle.service_machine.specs.States.{Slot, slot_at, empty_slot, cut}
 use Rattle.service_machine.specs.Steps.{cut_to, cut_others, targets}
 use Rattle.node_core.specs.Rewiring.{left_without, cut_rest}
@@ -84,7 +84,7 @@ others_none {V} ps c p (x ∷ xs) none =
     differs true e = absurd (none (inl (sym (eqb-true p x.sender e))))
     differs false e = refl
 
-others_left : {V : Type 0} (ps : List ℕ) (c p : ℕ) (xs : List (Slot V)) → Apart (senders xs) → cut_others (p ∷ ps) c xs ≡ cut_others ps c (left_without p xs)
+others_left : {V : Type 0} (ps : List ℕ) (c p : ℕ) (xs : List (Slot V)) → AreDistinct (senders xs) → cut_others (p ∷ ps) c xs ≡ cut_others ps c (left_without p xs)
 others_left ps c p [] apart = refl
 others_left {V} ps c p (x ∷ xs) apart = go (x.sender == p) refl (others_left ps c p xs apart.1)
   where
@@ -111,21 +111,21 @@ has_left {V} (x ∷ xs) p q has = go (x.sender == p) has (has_left xs p q)
     go false (inl e) rec = inl e
     go false (inr h) rec = inr (rec h)
 
-pub apart_left : {V : Type 0} (xs : List (Slot V)) (p : ℕ) → Apart (senders xs) → Apart (senders (left_without p xs))
+pub apart_left : {V : Type 0} (xs : List (Slot V)) (p : ℕ) → AreDistinct (senders xs) → AreDistinct (senders (left_without p xs))
 apart_left [] p apart = tt
 apart_left {V} (x ∷ xs) p apart = go (x.sender == p) (apart_left xs p apart.1)
   where
-    go : (b : Bool) → Apart (senders (left_without p xs)) → Apart (senders (cond b xs (x ∷ left_without p xs)))
+    go : (b : Bool) → AreDistinct (senders (left_without p xs)) → AreDistinct (senders (cond b xs (x ∷ left_without p xs)))
     go true h = apart.1
     go false h = (λ has. apart.0 (has_left xs p x.sender has), h)
 
 -- one edge more
 pub edge_step : {V : Type 0} (new old left : List (Slot V)) (edges : List (ℕ × ℕ)) (i c : ℕ) (edge : ℕ × ℕ) (slot : Slot V) → i < length edges → edge ≡ slice_index_or edges i edge →
-    Apart (senders old) → Apart (targets (drop i edges)) → slot ≡ cut (Some edge.1) c (slot_at old edge.0) → left ≡ left_without edge.0 old →
+    AreDistinct (senders old) → AreDistinct (targets (drop i edges)) → slot ≡ cut (Some edge.1) c (slot_at old edge.0) → left ≡ left_without edge.0 old →
     (new ++ slot ∷ []) ++ (cut_to (drop (suc i) edges) c left ++ cut_others (targets (drop (suc i) edges)) c left) ≡ new ++ (cut_to (drop i edges) c old ++ cut_others (targets (drop i edges)) c old)
 edge_step {V} new old left edges i c edge slot lt is apart rest at without =
     let here : drop i edges ≡ edge ∷ drop (suc i) edges = drop_at edges i edge lt is in
-    let none : Has (targets (drop (suc i) edges)) edge.0 → ⊥ = (let P : List (ℕ × ℕ) → Type 0 = λ es. Apart (targets es) in (subst P here rest).0) in
+    let none : Has (targets (drop (suc i) edges)) edge.0 → ⊥ = (let P : List (ℕ × ℕ) → Type 0 = λ es. AreDistinct (targets es) in (subst P here rest).0) in
     append_assoc new (slot ∷ []) (cut_to (drop (suc i) edges) c left ++ cut_others (targets (drop (suc i) edges)) c left)
     ∙ ap (λ zs. new ++ zs)
     (ap (λ (z : Slot V). z ∷ (cut_to (drop (suc i) edges) c left ++ cut_others (targets (drop (suc i) edges)) c left)) at
@@ -134,7 +134,7 @@ edge_step {V} new old left edges i c edge slot lt is apart rest at without =
     ∙ ap (λ (zs : List (Slot V)). cut (Some edge.1) c (slot_at old edge.0) ∷ (cut_to (drop (suc i) edges) c old ++ zs)) (sym (others_left (targets (drop (suc i) edges)) c edge.0 old apart))
     ∙ ap (λ (es : List (ℕ × ℕ)). cut_to es c old ++ cut_others (targets es) c old) (sym here))
 
-pub apart_next : (edges : List (ℕ × ℕ)) (i : ℕ) → i < length edges → Apart (targets (drop i edges)) → Apart (targets (drop (suc i) edges))
+pub apart_next : (edges : List (ℕ × ℕ)) (i : ℕ) → i < length edges → AreDistinct (targets (drop i edges)) → AreDistinct (targets (drop (suc i) edges))
 apart_next [] i lt apart = absurd (omega arith)
 apart_next (e ∷ edges) zero lt apart = apart.1
 apart_next (e ∷ edges) (suc i) lt apart = apart_next edges i (omega arith) apart

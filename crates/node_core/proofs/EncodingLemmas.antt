@@ -7,9 +7,9 @@ use Rattle.wire_frame.specs.declared.frame.Delta.{Delta}
 use Rattle.wire_frame.specs.declared.place_clock.PlaceClock.{PlaceClock}
 use Rattle.svc_value.specs.declared.value.Value.{Value}
 use Rattle.wire_frame.specs.declared.frame.Frame.TheVariants.{Sources, Changed}
-use Rattle.wire_frame.specs.Frames.{FrameOf, IsDelta, frame_bytes, half, place_clock}
+use Rattle.wire_frame.specs.Frames.{FrameOf, IsDelta, frame_bytes, u16_bytes, place_clock}
 use Rattle.wire_frame.proofs.Rising.{places_fit}
-use Rattle.node_core.specs.Mail.{with_epoch, Adds}
+use Rattle.node_core.specs.Outgoing.{with_epoch, Adds}
 
 -- items of one length
 flat_length : {X : Type 0} (f : X → List ℕ) (size : ℕ) → ((x : X) → length (f x) ≡ size) → (xs : List X) → length (flat_map f xs) ≡ size * length xs
@@ -19,7 +19,7 @@ flat_length f size each (x ∷ xs) =
     grind (arith, each x, length-append (f x) (flat_map f xs))
 
 pub sources_length : (epoch : ℕ) (keys : List ℕ) → length (frame_bytes (Sources (record { epoch = epoch; keys = keys }))) ≡ 6 + 2 * length keys
-sources_length epoch keys = omega (arith, flat_length half 2 (λ x. refl) keys)
+sources_length epoch keys = omega (arith, flat_length u16_bytes 2 (λ x. refl) keys)
 
 pub delta_length : (epoch : ℕ) (value : Value) (clocks : List PlaceClock) → length (frame_bytes (Changed (record { epoch = epoch; value = value; clocks = clocks }))) ≡ 6 + length (layout value) + 5 * length clocks
 delta_length epoch value clocks = omega (arith, flat_length place_clock 5 (λ x. refl) clocks, length-append (layout value) (length clocks ∷ flat_map place_clock clocks))

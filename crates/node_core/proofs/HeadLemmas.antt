@@ -3,7 +3,7 @@ use Rattle.std.proofs.Common.{◌≡◌, ℕ, zero, suc, ◌<◌, ◌≤◌, Lis
 use Rattle.std.proofs.lemmas.List.{append-nil}
 use Rattle.propagation.specs.Stamps.{Stamps}
 use Rattle.propagation.specs.Logs.{Emission}
-use Rattle.service_machine.specs.States.{Slot, Head, emission_of, number_of, raise_one, raise, raise_all}
+use Rattle.service_machine.specs.States.{Slot, Head, emission_of, number_at_head, raise_one, raise, raise_all}
 use Rattle.service_machine.specs.Turning.{heads, with_head}
 use Rattle.service_machine.specs.Steps.{picks}
 use Rattle.svc_value.specs.declared.value.Value.{Value}
@@ -48,14 +48,14 @@ union_none S slots i s lt is e = ap (λ (ms : List (Emission Value)). raise_all 
 pub union_done : (S T : Stamps) (slots : List (Slot Value)) (i : ℕ) → length slots ≤ i → raise_all S (heads (drop i slots)) ≡ T → S ≡ T
 union_done S T slots i h is = ap (λ (xs : List (Slot Value)). raise_all S (heads xs)) (sym (nothing_left slots i h)) ∙ is
 
-pub picks_next : (made : List ℕ) (slots : List (Slot Value)) (i n : ℕ) (s : Slot Value) → i < length slots → s ≡ slice_index_or slots i s → n ≡ number_of s.head →
+pub picks_next : (made : List ℕ) (slots : List (Slot Value)) (i n : ℕ) (s : Slot Value) → i < length slots → s ≡ slice_index_or slots i s → n ≡ number_at_head s.head →
     (made ++ n ∷ []) ++ picks (drop (suc i) slots) ≡ made ++ picks (drop i slots)
 picks_next made slots i n s lt is e =
     append_assoc made (n ∷ []) (picks (drop (suc i) slots)) ∙ ap (λ k. made ++ k ∷ picks (drop (suc i) slots)) e ∙ ap (λ zs. made ++ zs) (sym (at slots i s lt is))
   where
-    at : (xs : List (Slot Value)) (i : ℕ) (s : Slot Value) → i < length xs → s ≡ slice_index_or xs i s → picks (drop i xs) ≡ number_of s.head ∷ picks (drop (suc i) xs)
+    at : (xs : List (Slot Value)) (i : ℕ) (s : Slot Value) → i < length xs → s ≡ slice_index_or xs i s → picks (drop i xs) ≡ number_at_head s.head ∷ picks (drop (suc i) xs)
     at [] i s lt is = absurd (omega arith)
-    at (x ∷ rest) zero s lt is = ap (λ (z : Slot Value). number_of z.head ∷ picks rest) (sym is)
+    at (x ∷ rest) zero s lt is = ap (λ (z : Slot Value). number_at_head z.head ∷ picks rest) (sym is)
     at (x ∷ rest) (suc i) s lt is = at rest i s (omega arith) is
 
 pub picks_done : (made : List ℕ) (slots : List (Slot Value)) (i : ℕ) → length slots ≤ i → made ++ picks (drop i slots) ≡ picks slots → made ≡ picks slots

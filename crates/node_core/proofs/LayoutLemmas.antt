@@ -2,7 +2,7 @@
 use Rattle.std.proofs.Common.{◌≡◌, ℕ, suc, ◌<◌, ◌+◌, ◌==◌, Bool, true, false, cond, List, [], ◌∷◌, length, refl, sym, ap, subst, ◌∙◌, arith, inl, inr}
 use Rattle.std.specs.Prelude.{All}
 use Rattle.std.proofs.lemmas.List.Elements.{All-nil, All-cons}
-use Rattle.propagation.specs.Words.{Has}
+use Rattle.propagation.specs.Lists.{Has}
 use Rattle.propagation.specs.Stamps.{Stamps, IsRising, Rise, RisePairs, keys, all_places, changed_places}
 use Rattle.propagation.proofs.Places.{rise-all_places, rise-changed_places}
 use Rattle.stamp_clock.specs.Beside.{AreStamps}

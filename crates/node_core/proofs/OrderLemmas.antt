@@ -1,6 +1,6 @@
 -- After a change the slots stand in the order of the new edges.
 use Rattle.std.proofs.Common.{◌≡◌, ◌⊎◌, ℕ, ◌==◌, Bool, true, false, cond, List, [], ◌∷◌, ◌++◌, length, take, None, refl, sym, ap, subst, ◌∙◌, inl, inr, eqb-true}
-use Rattle.propagation.specs.Words.{Apart, Has, is_among}
+use Rattle.propagation.specs.Lists.{AreDistinct, Has, is_among}
 use Rattle.propagation.proofs.Edges.{is_among-Has}
 use Rattle.service_machine.specs.States.{Slot, slot_at, cut}
 use Rattle.service_machine.specs.Steps.{targets, cut_to, cut_others}
@@ -35,11 +35,11 @@ other_senders {V} ps c (s ∷ rest) q has = go (is_among ps s.sender) refl has (
     go false e (inl is) rec = (inl is, (let P : ℕ → Type 0 = λ k. is_among ps k ≡ false in subst P is e))
     go false e (inr h) rec = (inr (rec h).0, (rec h).1)
 
-apart_others : {V : Type 0} (ps : List ℕ) (c : ℕ) (slots : List (Slot V)) → Apart (senders slots) → Apart (senders (cut_others ps c slots))
+apart_others : {V : Type 0} (ps : List ℕ) (c : ℕ) (slots : List (Slot V)) → AreDistinct (senders slots) → AreDistinct (senders (cut_others ps c slots))
 apart_others ps c [] apart = tt
 apart_others {V} ps c (s ∷ rest) apart = go (is_among ps s.sender) (apart_others ps c rest apart.1)
   where
-    go : (b : Bool) → Apart (senders (cut_others ps c rest)) → Apart (senders (cond b (cut_others ps c rest) (cut None c s ∷ cut_others ps c rest)))
+    go : (b : Bool) → AreDistinct (senders (cut_others ps c rest)) → AreDistinct (senders (cond b (cut_others ps c rest) (cut None c s ∷ cut_others ps c rest)))
     go true h = h
     go false h = (λ has. apart.0 (other_senders ps c rest s.sender has).0, h)
 
@@ -57,7 +57,7 @@ has_either (x ∷ ps) qs p (inr has) = go (has_either ps qs p has)
     go (inl h) = inl (inr h)
     go (inr h) = inr h
 
-apart_append : (ps qs : List ℕ) → Apart ps → Apart qs → ((p : ℕ) → Has ps p → Has qs p → ⊥) → Apart (ps ++ qs)
+apart_append : (ps qs : List ℕ) → AreDistinct ps → AreDistinct qs → ((p : ℕ) → Has ps p → Has qs p → ⊥) → AreDistinct (ps ++ qs)
 apart_append [] qs first second none = second
 apart_append (x ∷ ps) qs first second none = (λ has. go (has_either ps qs x has), apart_append ps qs first.1 second (λ p one two. none p (inr one) two))
   where
@@ -66,10 +66,10 @@ apart_append (x ∷ ps) qs first second none = (λ has. go (has_either ps qs x h
     go (inr h) = none x (inl refl) h
 
 -- all of them
-pub in_order_cut : {V : Type 0} (edges : List (ℕ × ℕ)) (c : ℕ) (slots : List (Slot V)) → Apart (targets edges) → Apart (senders slots) → AreInOrder edges (cut_to edges c slots ++ cut_others (targets edges) c slots)
+pub in_order_cut : {V : Type 0} (edges : List (ℕ × ℕ)) (c : ℕ) (slots : List (Slot V)) → AreDistinct (targets edges) → AreDistinct (senders slots) → AreInOrder edges (cut_to edges c slots ++ cut_others (targets edges) c slots)
 in_order_cut {V} edges c slots differ apart =
     record {
-      apart = subst Apart (sym (senders_append (cut_to edges c slots) (cut_others (targets edges) c slots) ∙ ap (λ ps. ps ++ senders (cut_others (targets edges) c slots)) (cut_senders edges c slots)))
+      apart = subst AreDistinct (sym (senders_append (cut_to edges c slots) (cut_others (targets edges) c slots) ∙ ap (λ ps. ps ++ senders (cut_others (targets edges) c slots)) (cut_senders edges c slots)))
           (apart_append (targets edges) (senders (cut_others (targets edges) c slots)) differ (apart_others (targets edges) c slots apart)
           (λ p one two. let yes = is_among-Has (targets edges) p one in let no = (other_senders (targets edges) c slots p two).1 in absurd (cc (yes, no))));
       first = cut_first edges c slots (cut_others (targets edges) c slots);

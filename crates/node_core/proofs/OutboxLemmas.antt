@@ -11,8 +11,8 @@ use Rattle.node_core.specs.Outbox.{waiting, first_to, TakesOut}
 use Rattle.node_core.specs.View.{IsPosted, IsLastOut}
 
 -- where no frame before is to the service, the one at the place is its oldest
-pub own_at : (q : ℕ) (posts : List (ℕ × List ℕ)) (i : ℕ) (x : ℕ × List ℕ) → i < length posts → x ≡ slice_index_or posts i x → (x.0 == q) ≡ true →
-    ((k : ℕ) → k < i → ((slice_index_or posts k x).0 == q) ≡ false) → waiting q posts ≡ x.1 ∷ waiting q (remove posts i)
+pub own_at : (q : ℕ) (outgoing_frames : List (ℕ × List ℕ)) (i : ℕ) (x : ℕ × List ℕ) → i < length outgoing_frames → x ≡ slice_index_or outgoing_frames i x → (x.0 == q) ≡ true →
+    ((k : ℕ) → k < i → ((slice_index_or outgoing_frames k x).0 == q) ≡ false) → waiting q outgoing_frames ≡ x.1 ∷ waiting q (remove outgoing_frames i)
 own_at q [] i x lt is own none = absurd (omega arith)
 own_at q (y ∷ rest) zero x lt is own none =
     cond-true (y.0 == q) (y.1 ∷ waiting q rest) (waiting q rest) (ap (λ (z : ℕ × List ℕ). z.0 == q) (sym is) ∙ own)
@@ -23,31 +23,31 @@ own_at q (y ∷ rest) (suc i) x lt is own none =
     ∙ ap (λ zs. x.1 ∷ zs) (sym (cond-false (y.0 == q) (y.1 ∷ waiting q (remove rest i)) (waiting q (remove rest i)) (none 0 (omega arith))))
 
 -- the frames to another service stay
-pub others_at : (p q : ℕ) (posts : List (ℕ × List ℕ)) (i : ℕ) (x : ℕ × List ℕ) → i < length posts → x ≡ slice_index_or posts i x → (x.0 == p) ≡ false →
-    waiting p (remove posts i) ≡ waiting p posts
+pub others_at : (p q : ℕ) (outgoing_frames : List (ℕ × List ℕ)) (i : ℕ) (x : ℕ × List ℕ) → i < length outgoing_frames → x ≡ slice_index_or outgoing_frames i x → (x.0 == p) ≡ false →
+    waiting p (remove outgoing_frames i) ≡ waiting p outgoing_frames
 others_at p q [] i x lt is other = absurd (omega arith)
 others_at p q (y ∷ rest) zero x lt is other =
     sym (cond-false (y.0 == p) (y.1 ∷ waiting p rest) (waiting p rest) (ap (λ (z : ℕ × List ℕ). z.0 == p) (sym is) ∙ other))
 others_at p q (y ∷ rest) (suc i) x lt is other = ap (λ zs. cond (y.0 == p) (y.1 ∷ zs) zs) (others_at p q rest i x (omega arith) is other)
 
 -- where all are to others none waits
-pub all_others : (q : ℕ) (posts : List (ℕ × List ℕ)) → length posts ≤ prefix_len (λ post. not (post.0 == q)) posts → waiting q posts ≡ []
+pub all_others : (q : ℕ) (outgoing_frames : List (ℕ × List ℕ)) → length outgoing_frames ≤ prefix_len (λ outgoing_frame. not (outgoing_frame.0 == q)) outgoing_frames → waiting q outgoing_frames ≡ []
 all_others q [] h = refl
 all_others q (y ∷ rest) h = go (y.0 == q) h (all_others q rest)
   where
-    go : (b : Bool) → suc (length rest) ≤ cond (not b) (1 + prefix_len (λ post. not (post.0 == q)) rest) 0 →
-        (length rest ≤ prefix_len (λ post. not (post.0 == q)) rest → waiting q rest ≡ []) → cond b (y.1 ∷ waiting q rest) (waiting q rest) ≡ []
+    go : (b : Bool) → suc (length rest) ≤ cond (not b) (1 + prefix_len (λ outgoing_frame. not (outgoing_frame.0 == q)) rest) 0 →
+        (length rest ≤ prefix_len (λ outgoing_frame. not (outgoing_frame.0 == q)) rest → waiting q rest ≡ []) → cond b (y.1 ∷ waiting q rest) (waiting q rest) ≡ []
     go true less rec = absurd (omega (arith, less))
     go false less rec = rec (omega (arith, less))
 
 -- without a frame to the service none waits
-pub none_to : (q : ℕ) (posts : List (ℕ × List ℕ)) → first_to q posts ≡ None → waiting q posts ≡ []
-none_to q posts is = go (ltb (prefix_len (λ post. not (post.0 == q)) posts) (length posts)) refl is
+pub none_to : (q : ℕ) (outgoing_frames : List (ℕ × List ℕ)) → first_to q outgoing_frames ≡ None → waiting q outgoing_frames ≡ []
+none_to q outgoing_frames is = go (ltb (prefix_len (λ outgoing_frame. not (outgoing_frame.0 == q)) outgoing_frames) (length outgoing_frames)) refl is
   where
-    go : (b : Bool) → ltb (prefix_len (λ post. not (post.0 == q)) posts) (length posts) ≡ b →
-        cond b (Some (prefix_len (λ post. not (post.0 == q)) posts)) None ≡ None → waiting q posts ≡ []
+    go : (b : Bool) → ltb (prefix_len (λ outgoing_frame. not (outgoing_frame.0 == q)) outgoing_frames) (length outgoing_frames) ≡ b →
+        cond b (Some (prefix_len (λ outgoing_frame. not (outgoing_frame.0 == q)) outgoing_frames)) None ≡ None → waiting q outgoing_frames ≡ []
     go true t gone = absurd (cc gone)
-    go false t gone = all_others q posts (ltb-false _ _ t)
+    go false t gone = all_others q outgoing_frames (ltb-false _ _ t)
 
 -- what is one service is not another
 not_both : (a p q : ℕ) → (a == q) ≡ true → p ≢ q → (a == p) ≡ false
@@ -58,16 +58,16 @@ not_both a p q own ne = go (a == p) refl
     go false e = refl
 
 -- the oldest frame to a service is taken out
-pub takes_out : (q : ℕ) (posts : List (ℕ × List ℕ)) (i : ℕ) (x : ℕ × List ℕ) → first_to q posts ≡ Some i → x ≡ slice_index_or posts i x →
-    TakesOut q posts (remove posts i) (Some x.1)
-takes_out q posts i x at is =
-    let found : (i < length posts) × (((slice_index_or posts i x).0 == q) ≡ true) × ((k : ℕ) → k < i → ((slice_index_or posts k x).0 == q) ≡ false) = position-Some (λ post. post.0 == q) posts i x at in
+pub takes_out : (q : ℕ) (outgoing_frames : List (ℕ × List ℕ)) (i : ℕ) (x : ℕ × List ℕ) → first_to q outgoing_frames ≡ Some i → x ≡ slice_index_or outgoing_frames i x →
+    TakesOut q outgoing_frames (remove outgoing_frames i) (Some x.1)
+takes_out q outgoing_frames i x at is =
+    let found : (i < length outgoing_frames) × (((slice_index_or outgoing_frames i x).0 == q) ≡ true) × ((k : ℕ) → k < i → ((slice_index_or outgoing_frames k x).0 == q) ≡ false) = position-Some (λ outgoing_frame. outgoing_frame.0 == q) outgoing_frames i x at in
     let own : (x.0 == q) ≡ true = ap (λ (z : ℕ × List ℕ). z.0 == q) is ∙ found.1 in
     record {
-      own = own_at q posts i x found.0 is own found.2;
+      own = own_at q outgoing_frames i x found.0 is own found.2;
       none = λ e. absurd (cc e);
-      others = λ p ne. others_at p q posts i x found.0 is (not_both x.0 p q own ne);
-      count = sym (length-remove posts i found.0);
+      others = λ p ne. others_at p q outgoing_frames i x found.0 is (not_both x.0 p q own ne);
+      count = sym (length-remove outgoing_frames i found.0);
     }
 
 -- what is taken out was handed over
@@ -85,17 +85,17 @@ pub last_out : (entries : List Entry) (q : ℕ) (old new : List (ℕ × List ℕ
 last_out entries q old new frame out posted = ((posted q).0, (posted q).1 ∙ ap (λ zs. (posted q).0 ++ zs) out.own)
 
 -- and what is put back was not
-pub posted_back : (entries : List Entry) (q : ℕ) (b : List ℕ) (posts : List (ℕ × List ℕ)) → (gone : List (List ℕ)) × (sent_to q entries ≡ gone ++ b ∷ waiting q posts) →
-    IsPosted entries posts → IsPosted entries ((q, b) ∷ posts)
-posted_back entries q b posts last posted p = go (q == p) refl
+pub posted_back : (entries : List Entry) (q : ℕ) (b : List ℕ) (outgoing_frames : List (ℕ × List ℕ)) → (gone : List (List ℕ)) × (sent_to q entries ≡ gone ++ b ∷ waiting q outgoing_frames) →
+    IsPosted entries outgoing_frames → IsPosted entries ((q, b) ∷ outgoing_frames)
+posted_back entries q b outgoing_frames last posted p = go (q == p) refl
   where
-    go : (t : Bool) → (q == p) ≡ t → (gone : List (List ℕ)) × (sent_to p entries ≡ gone ++ cond t (b ∷ waiting p posts) (waiting p posts))
-    go true e = let P : ℕ → Type 0 = λ k. (gone : List (List ℕ)) × (sent_to k entries ≡ gone ++ b ∷ waiting k posts) in subst P (eqb-true q p e) last
+    go : (t : Bool) → (q == p) ≡ t → (gone : List (List ℕ)) × (sent_to p entries ≡ gone ++ cond t (b ∷ waiting p outgoing_frames) (waiting p outgoing_frames))
+    go true e = let P : ℕ → Type 0 = λ k. (gone : List (List ℕ)) × (sent_to k entries ≡ gone ++ b ∷ waiting k outgoing_frames) in subst P (eqb-true q p e) last
     go false e = posted p
 
 -- equal lists are posted alike
 pub posted_same : (old new : List Entry) (before after : List (ℕ × List ℕ)) → new ≡ old → after ≡ before → IsPosted old before → IsPosted new after
-posted_same old new before after e f was = let P : List Entry → Type 0 = λ entries. IsPosted entries after in let Q : List (ℕ × List ℕ) → Type 0 = λ posts. IsPosted old posts in subst P (sym e) (subst Q (sym f) was)
+posted_same old new before after e f was = let P : List Entry → Type 0 = λ entries. IsPosted entries after in let Q : List (ℕ × List ℕ) → Type 0 = λ outgoing_frames. IsPosted old outgoing_frames in subst P (sym e) (subst Q (sym f) was)
 
 -- the oldest of all goes
 pub pops_out : (x : ℕ × List ℕ) (rest : List (ℕ × List ℕ)) → TakesOut x.0 (x ∷ rest) rest (Some x.1)

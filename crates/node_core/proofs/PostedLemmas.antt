@@ -28,18 +28,18 @@ waiting_append q (x ∷ xs) ys = go (x.0 == q) (waiting_append q xs ys)
     go false h = h
 
 -- the entries of frames that are sent
-pub sent_mail : (q : ℕ) (mail : List (ℕ × List ℕ)) → sent_to q (sent_entries mail) ≡ waiting q mail
-sent_mail q [] = refl
-sent_mail q (x ∷ rest) = ap (λ zs. cond (x.0 == q) (x.1 ∷ zs) zs) (sent_mail q rest)
+pub sent_outgoing : (q : ℕ) (outgoing : List (ℕ × List ℕ)) → sent_to q (sent_entries outgoing) ≡ waiting q outgoing
+sent_outgoing q [] = refl
+sent_outgoing q (x ∷ rest) = ap (λ zs. cond (x.0 == q) (x.1 ∷ zs) zs) (sent_outgoing q rest)
 
 -- an event is posted
-pub posted_more : (entries : List Entry) (outbox mail : List (ℕ × List ℕ)) (first : Entry) → ((q : ℕ) → sent_to q (first ∷ []) ≡ []) → IsPosted entries outbox →
-    IsPosted ((entries ++ first ∷ []) ++ sent_entries mail) (outbox ++ mail)
-posted_more entries outbox mail first none was q = (
+pub posted_more : (entries : List Entry) (outbox outgoing : List (ℕ × List ℕ)) (first : Entry) → ((q : ℕ) → sent_to q (first ∷ []) ≡ []) → IsPosted entries outbox →
+    IsPosted ((entries ++ first ∷ []) ++ sent_entries outgoing) (outbox ++ outgoing)
+posted_more entries outbox outgoing first none was q = (
   (was q).0,
-  sent_append q (entries ++ first ∷ []) (sent_entries mail)
-      ∙ ap (λ zs. zs ++ sent_to q (sent_entries mail)) (sent_append q entries (first ∷ []) ∙ ap (λ zs. sent_to q entries ++ zs) (none q) ∙ append-nil (sent_to q entries) ∙ (was q).1)
-      ∙ ap (λ zs. ((was q).0 ++ waiting q outbox) ++ zs) (sent_mail q mail)
-      ∙ append_assoc (was q).0 (waiting q outbox) (waiting q mail)
-      ∙ ap (λ zs. (was q).0 ++ zs) (sym (waiting_append q outbox mail)),
+  sent_append q (entries ++ first ∷ []) (sent_entries outgoing)
+      ∙ ap (λ zs. zs ++ sent_to q (sent_entries outgoing)) (sent_append q entries (first ∷ []) ∙ ap (λ zs. sent_to q entries ++ zs) (none q) ∙ append-nil (sent_to q entries) ∙ (was q).1)
+      ∙ ap (λ zs. ((was q).0 ++ waiting q outbox) ++ zs) (sent_outgoing q outgoing)
+      ∙ append_assoc (was q).0 (waiting q outbox) (waiting q outgoing)
+      ∙ ap (λ zs. (was q).0 ++ zs) (sym (waiting_append q outbox outgoing)),
 )

@@ -3,7 +3,7 @@ use Rattle.std.proofs.Common.{◌≡◌, ℕ, zero, suc, ◌<◌, ◌≤◌, ◌
 use Rattle.std.specs.Prelude.{All}
 use Rattle.std.proofs.lemmas.Bool.{cond-true, cond-false}
 use Rattle.std.proofs.lemmas.List.Elements.{All-head, All-tail}
-use Rattle.propagation.specs.Words.{is_among, without}
+use Rattle.propagation.specs.Lists.{is_among, without}
 use Rattle.propagation.specs.Logs.{Entry as TheEntry, Frame as TheFrame, sends}
 use Rattle.propagation.specs.Logs.Entry.{Sent as TheSent}
 use Rattle.service_machine.specs.States.{epoch_in}
@@ -11,7 +11,7 @@ use Rattle.service_machine.specs.Steps.{targets}
 use Rattle.svc_value.specs.declared.value.Value.{Value}
 use Rattle.wire_frame.specs.declared.frame.Frame.{Frame}
 use Rattle.wire_frame.specs.Message.{message}
-use Rattle.node_core.specs.Mail.{Adds, Says}
+use Rattle.node_core.specs.Outgoing.{Adds, Says}
 use Rattle.node_core.proofs.SaysLemmas.{says_one, says_same}
 
 -- ---- sends, one more
@@ -46,23 +46,23 @@ take_all (x ∷ xs) (suc i) h = ap (λ zs. x ∷ zs) (take_all xs i (omega (arit
 
 -- ---- the two loops
 
-pub sends_kept : (mail : List (ℕ × List ℕ)) (f : ℕ → TheFrame Value) (ps others : List ℕ) (i p : ℕ) (base : List (TheEntry Value) → List (TheEntry Value)) → i < length ps → p ≡ slice_index_or ps i p → is_among others p ≡ true →
-    Says mail (λ log. sends f (without (take i ps) others) (base log)) → Says mail (λ log. sends f (without (take (suc i) ps) others) (base log))
-sends_kept mail f ps others i p base lt is among says =
-    says_same mail (λ log. sends f (without (take i ps) others) (base log)) (λ log. sends f (without (take (suc i) ps) others) (base log))
+pub sends_kept : (outgoing : List (ℕ × List ℕ)) (f : ℕ → TheFrame Value) (ps others : List ℕ) (i p : ℕ) (base : List (TheEntry Value) → List (TheEntry Value)) → i < length ps → p ≡ slice_index_or ps i p → is_among others p ≡ true →
+    Says outgoing (λ log. sends f (without (take i ps) others) (base log)) → Says outgoing (λ log. sends f (without (take (suc i) ps) others) (base log))
+sends_kept outgoing f ps others i p base lt is among says =
+    says_same outgoing (λ log. sends f (without (take i ps) others) (base log)) (λ log. sends f (without (take (suc i) ps) others) (base log))
     (λ log. ap (λ zs. sends f zs (base log)) (sym (without_next ps others i p lt is ∙ cond-true (is_among others p) (without (take i ps) others) (without (take i ps) others ++ p ∷ []) among))) says
 
-pub sends_more : (mail more : List (ℕ × List ℕ)) (f : ℕ → TheFrame Value) (ps others : List ℕ) (i p : ℕ) (frame : Frame) (base : List (TheEntry Value) → List (TheEntry Value)) → i < length ps → p ≡ slice_index_or ps i p → is_among others p ≡ false →
-    Says mail (λ log. sends f (without (take i ps) others) (base log)) → Adds p frame mail more → message frame ≡ Some (f p) → Says more (λ log. sends f (without (take (suc i) ps) others) (base log))
-sends_more mail more f ps others i p frame base lt is none says adds said =
+pub sends_more : (outgoing more : List (ℕ × List ℕ)) (f : ℕ → TheFrame Value) (ps others : List ℕ) (i p : ℕ) (frame : Frame) (base : List (TheEntry Value) → List (TheEntry Value)) → i < length ps → p ≡ slice_index_or ps i p → is_among others p ≡ false →
+    Says outgoing (λ log. sends f (without (take i ps) others) (base log)) → Adds p frame outgoing more → message frame ≡ Some (f p) → Says more (λ log. sends f (without (take (suc i) ps) others) (base log))
+sends_more outgoing more f ps others i p frame base lt is none says adds said =
     says_same more (λ log. TheSent p (f p) ∷ sends f (without (take i ps) others) (base log)) (λ log. sends f (without (take (suc i) ps) others) (base log))
     (λ log. sym (ap (λ zs. sends f zs (base log)) (without_next ps others i p lt is ∙ cond-false (is_among others p) (without (take i ps) others) (without (take i ps) others ++ p ∷ []) none) ∙ sends_snoc f (without (take i ps) others) p (base log)))
-    (says_one mail more p frame (f p) (λ log. sends f (without (take i ps) others) (base log)) says adds said)
+    (says_one outgoing more p frame (f p) (λ log. sends f (without (take i ps) others) (base log)) says adds said)
 
-pub sends_whole : (mail : List (ℕ × List ℕ)) (f : ℕ → TheFrame Value) (ps others : List ℕ) (i : ℕ) (base : List (TheEntry Value) → List (TheEntry Value)) → length ps ≤ i →
-    Says mail (λ log. sends f (without (take i ps) others) (base log)) → Says mail (λ log. sends f (without ps others) (base log))
-sends_whole mail f ps others i base h says =
-    says_same mail (λ log. sends f (without (take i ps) others) (base log)) (λ log. sends f (without ps others) (base log)) (λ log. ap (λ zs. sends f (without zs others) (base log)) (take_all ps i h)) says
+pub sends_whole : (outgoing : List (ℕ × List ℕ)) (f : ℕ → TheFrame Value) (ps others : List ℕ) (i : ℕ) (base : List (TheEntry Value) → List (TheEntry Value)) → length ps ≤ i →
+    Says outgoing (λ log. sends f (without (take i ps) others) (base log)) → Says outgoing (λ log. sends f (without ps others) (base log))
+sends_whole outgoing f ps others i base h says =
+    says_same outgoing (λ log. sends f (without (take i ps) others) (base log)) (λ log. sends f (without ps others) (base log)) (λ log. ap (λ zs. sends f (without zs others) (base log)) (take_all ps i h)) says
 
 -- ---- edges
 

@@ -2,8 +2,8 @@
 use Rattle.std.proofs.Common.{◌≡◌, ℕ, zero, suc, ◌<◌, ◌==◌, ◌++◌, Bool, true, false, cond, List, [], ◌∷◌, length, take, drop, slice_index_or, slice_set, refl, sym, ap, subst, ◌∙◌, arith, eqb-true, inl, inr, eq-eqb, Option, Some, None}
 use Rattle.node_core.specs.declared.entry.Entry.{Entry}
 use Rattle.std.proofs.lemmas.Bool.{cond-true}
-use Rattle.propagation.specs.Words.{Apart, Has}
-use Rattle.service_machine.specs.States.{Slot, Head, slot_at, number_of}
+use Rattle.propagation.specs.Lists.{AreDistinct, Has}
+use Rattle.service_machine.specs.States.{Slot, Head, slot_at, number_at_head}
 use Rattle.service_machine.specs.Openings.{first_head, first_slot, first_slots}
 use Rattle.node_core.specs.View.{senders, AreInOrder, AreCounted}
 
@@ -14,7 +14,7 @@ has_sender (x ∷ rest) zero s lt is = inl (ap (λ z. z.sender) (sym is))
 has_sender (x ∷ rest) (suc i) s lt is = inr (has_sender rest i s (omega arith) is)
 
 -- where the senders differ, the slot at a place is that of its sender
-pub slot_of_place : {V : Type 0} (slots : List (Slot V)) (i : ℕ) (s : Slot V) → Apart (senders slots) → i < length slots → s ≡ slice_index_or slots i s → slot_at slots s.sender ≡ s
+pub slot_of_place : {V : Type 0} (slots : List (Slot V)) (i : ℕ) (s : Slot V) → AreDistinct (senders slots) → i < length slots → s ≡ slice_index_or slots i s → slot_at slots s.sender ≡ s
 slot_of_place [] i s apart lt is = absurd (omega arith)
 slot_of_place {V} (x ∷ rest) zero s apart lt is =
     cond-true (x.sender == s.sender) x (slot_at rest s.sender) (eq-eqb x.sender s.sender (ap (λ (z : Slot V). z.sender) (sym is))) ∙ sym is
@@ -46,7 +46,7 @@ first_senders [] = refl
 first_senders (x ∷ rest) = ap (λ ps. x.sender ∷ ps) (first_senders rest)
 
 -- where the senders differ and something waits in a slot, something waits of its sender
-pub one_is_busy : {V : Type 0} (slots : List (Slot V)) (i : ℕ) (s : Slot V) → Apart (senders slots) → i < length slots → s ≡ slice_index_or slots i s → (s.queue ≡ [] → ⊥) →
+pub one_is_busy : {V : Type 0} (slots : List (Slot V)) (i : ℕ) (s : Slot V) → AreDistinct (senders slots) → i < length slots → s ≡ slice_index_or slots i s → (s.queue ≡ [] → ⊥) →
     ((p : ℕ) → (slot_at slots p).queue ≡ []) → ⊥
 one_is_busy {V} slots i s apart lt is busy idle = busy (ap (λ (z : Slot V). z.queue) (sym (slot_of_place slots i s apart lt is)) ∙ idle s.sender)
 
@@ -60,17 +60,17 @@ first_taken (suc n) (x ∷ rest) = ap (λ ps. x.sender ∷ ps) (first_taken n re
 pub in_order_open : {V : Type 0} (edges : List (ℕ × ℕ)) (slots : List (Slot V)) → AreInOrder edges slots → AreInOrder edges (first_slots slots)
 in_order_open edges slots was =
     record {
-      apart = subst Apart (sym (first_senders slots)) was.apart;
+      apart = subst AreDistinct (sym (first_senders slots)) was.apart;
       first = first_taken (length edges) slots ∙ was.first;
     }
 
 -- a head with the number 0 is not counted more
 first_number : {V : Type 0} (slots : List (Slot V)) (k : ℕ) (s : Slot V) → k < length (first_slots slots) →
-    (number_of (slice_index_or (first_slots slots) k s).head ≡ 0) × ((slice_index_or (first_slots slots) k s).queue ≡ (slice_index_or slots k s).queue) × (k < length slots)
+    (number_at_head (slice_index_or (first_slots slots) k s).head ≡ 0) × ((slice_index_or (first_slots slots) k s).queue ≡ (slice_index_or slots k s).queue) × (k < length slots)
 first_number [] k s lt = absurd (omega arith)
 first_number {V} (x ∷ rest) zero s lt = (go x.head, refl, omega arith)
   where
-    go : (h : Option (Head V)) → number_of (first_head h) ≡ 0
+    go : (h : Option (Head V)) → number_at_head (first_head h) ≡ 0
     go None = refl
     go (Some h) = refl
 first_number (x ∷ rest) (suc k) s lt = let one = first_number rest k s (omega arith) in (one.0, one.1, omega (arith, one.2))
@@ -82,7 +82,7 @@ counted_open entries slots was k s lt =
     rw (one.0, one.1) (omega (arith, was k s one.2))
 
 -- where nothing waits the slots are counted with no entries
-pub counted_close : {V : Type 0} (slots : List (Slot V)) → Apart (senders slots) → ((p : ℕ) → (slot_at slots p).queue ≡ []) → AreCounted [] (first_slots slots)
+pub counted_close : {V : Type 0} (slots : List (Slot V)) → AreDistinct (senders slots) → ((p : ℕ) → (slot_at slots p).queue ≡ []) → AreCounted [] (first_slots slots)
 counted_close {V} slots apart idle k s lt =
     let one = first_number slots k s lt in
     let place : slot_at slots (slice_index_or slots k s).sender ≡ slice_index_or slots k s = slot_of_place slots k (slice_index_or slots k s) apart one.2 (get_or-self slots k s one.2) in

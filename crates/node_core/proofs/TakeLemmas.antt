@@ -10,8 +10,8 @@ use Rattle.wire_frame.specs.Message.{IsMessage}
 use Rattle.node_core.specs.declared.entry.Entry.{Entry}
 use Rattle.node_core.specs.declared.entry.Entry.TheVariants.{Took}
 use Rattle.node_core.specs.Entries.{sent_entries}
-use Rattle.node_core.specs.Mail.{Says}
-use Rattle.node_core.specs.View.{Service, Grows, told_all, AreCounted}
+use Rattle.node_core.specs.Outgoing.{Says}
+use Rattle.node_core.specs.View.{NodeView, Grows, told_all, AreCounted}
 use Rattle.node_core.proofs.EventLemmas.{counted_more, grows_event}
 
 -- ---- readers that all were told the same
@@ -51,18 +51,18 @@ came_told last present q e =
 -- ---- the log
 
 -- a taken frame and what it is answered with
-pub grows_took : (old new : Service) (p : ℕ) (bytes : List ℕ) (said : TheFrame Value) (before : List Entry) (waiting mail : List (ℕ × List ℕ)) →
-    new.entries ≡ before ++ Took p bytes ∷ sent_entries mail → before ≡ old.entries → new.outbox ≡ waiting ++ mail → waiting ≡ old.outbox → new.handed ≡ old.handed → new.roster ≡ old.roster → new.changes ≡ old.changes →
-    IsMessage bytes said → Says mail (sends_to p (reply said old.state.last)) → Grows old new (took_log p said old.state)
-grows_took old new p bytes said before waiting mail entries entries_were outbox outbox_was handed roster changes is says =
-    grows_event old new (Took p bytes) (TheTook p said) mail (sends_to p (reply said old.state.last)) (took_log p said old.state)
-    (entries ∙ ap (λ (es : List Entry). es ++ Took p bytes ∷ sent_entries mail) entries_were)
-    (outbox ∙ ap (λ (ps : List (ℕ × List ℕ)). ps ++ mail) outbox_was)
+pub grows_took : (old new : NodeView) (p : ℕ) (bytes : List ℕ) (said : TheFrame Value) (before : List Entry) (waiting outgoing : List (ℕ × List ℕ)) →
+    new.entries ≡ before ++ Took p bytes ∷ sent_entries outgoing → before ≡ old.entries → new.outbox ≡ waiting ++ outgoing → waiting ≡ old.outbox → new.handed ≡ old.handed → new.roster ≡ old.roster → new.changes ≡ old.changes →
+    IsMessage bytes said → Says outgoing (sends_to p (reply said old.state.last)) → Grows old new (took_log p said old.state)
+grows_took old new p bytes said before waiting outgoing entries entries_were outbox outbox_was handed roster changes is says =
+    grows_event old new (Took p bytes) (TheTook p said) outgoing (sends_to p (reply said old.state.last)) (took_log p said old.state)
+    (entries ∙ ap (λ (es : List Entry). es ++ Took p bytes ∷ sent_entries outgoing) entries_were)
+    (outbox ∙ ap (λ (ps : List (ℕ × List ℕ)). ps ++ outgoing) outbox_was)
     handed roster changes (said, is, refl) refl says (λ log. refl)
 
 -- a frame without an answer
-pub says_nothing : (p : ℕ) (said : TheFrame Value) (last : Option (Emission Value)) (mail : List (ℕ × List ℕ)) → mail ≡ [] → reply said last ≡ [] → Says mail (sends_to p (reply said last))
-says_nothing p said last mail none quiet =
+pub says_nothing : (p : ℕ) (said : TheFrame Value) (last : Option (Emission Value)) (outgoing : List (ℕ × List ℕ)) → outgoing ≡ [] → reply said last ≡ [] → Says outgoing (sends_to p (reply said last))
+says_nothing p said last outgoing none quiet =
     let P : List (ℕ × List ℕ) → Type 0 = λ m. Says m (sends_to p (reply said last)) in
     subst P (sym none) (record { each = λ log. ap (λ (fs : List (TheFrame Value)). sends_to p fs log) quiet })
 

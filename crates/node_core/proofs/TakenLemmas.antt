@@ -5,7 +5,7 @@ use Rattle.std.proofs.lemmas.Result.{IfErr-weaker}
 use Rattle.propagation.specs.Logs.{Emission, Frame as TheFrame, reply}
 use Rattle.service_machine.specs.Refusing.{InLayout}
 use Rattle.service_machine.specs.States.{Slot as AnySlot}
-use Rattle.service_machine.specs.Steps.{took, took_log, with_slots}
+use Rattle.service_machine.specs.Steps.{after_taking, took_log, with_slots}
 use Rattle.service_machine.proofs.Refusing.{refusals_are_exact}
 use Rattle.svc_graph.specs.declared.definition.Definition.{Definition}
 use Rattle.svc_value.specs.declared.value.Value.{Value}
@@ -16,9 +16,9 @@ use Rattle.wire_frame.specs.Message.{message, IsMessage}
 use Rattle.node_core.specs.declared.errors.TakeRefusal.{TakeRefusal}
 use Rattle.node_core.specs.declared.errors.TakeRefusal.TheVariants.{Frame, Old, Reader, NotBelow, NoSelf, KeyRank, WrongType, Slot, OutOfMemory}
 use Rattle.node_core.specs.Ranks.{rank_in, typed_in}
-use Rattle.node_core.specs.Hearing.{IsHeard, IsNotHeard, failed_in}
+use Rattle.node_core.specs.Receiving.{IsReceived, IsRefusedFrame, failed_in}
 use Rattle.node_core.specs.Taking.{IsRefused, IsUnread, Takes, TellsOf, failed_test}
-use Rattle.node_core.specs.View.{Service, Grows}
+use Rattle.node_core.specs.View.{NodeView, Grows}
 
 -- a message is within its layout
 said_layout : (frame : AnyFrame) (bytes : List ℕ) (said : TheFrame Value) → FrameOf frame bytes → message frame ≡ Some said → InLayout said
@@ -31,8 +31,8 @@ said_layout (Changed delta) bytes said frame_of is =
     let same : TheFrame.Changed delta.epoch delta.value (pairs delta.clocks) ≡ said = cc is in subst (λ (m : TheFrame Value). InLayout m) same frame_of.within.rise
 
 -- a frame that no test refuses was taken
-pub takes : {E : Type 0} (result : Result (Unit {0}) E) (old new : Service) (p : ℕ) (bytes : List ℕ) (said : TheFrame Value) → IsMessage bytes said →
-    OnOk result (failed_test old p said ≡ None) → OnOk result (new.state ≡ took p said old.state) → OnOk result (Grows old new (took_log p said old.state)) → OnOk result (Takes p bytes old new)
+pub takes : {E : Type 0} (result : Result (Unit {0}) E) (old new : NodeView) (p : ℕ) (bytes : List ℕ) (said : TheFrame Value) → IsMessage bytes said →
+    OnOk result (failed_test old p said ≡ None) → OnOk result (new.state ≡ after_taking p said old.state) → OnOk result (Grows old new (took_log p said old.state)) → OnOk result (Takes p bytes old new)
 takes (Err error) old new p bytes said is tested state log = tt
 takes (Ok done) old new p bytes said is tested state log =
     record {
@@ -45,7 +45,7 @@ takes (Ok done) old new p bytes said is tested state log =
     }
 
 -- what a test refuses is refused
-refused_by : (node : Service) (p : ℕ) (bytes : List ℕ) (said : TheFrame Value) → IsMessage bytes said → (error : TakeRefusal) → TellsOf (failed_test node p said) error → IsRefused node p bytes error
+refused_by : (node : NodeView) (p : ℕ) (bytes : List ℕ) (said : TheFrame Value) → IsMessage bytes said → (error : TakeRefusal) → TellsOf (failed_test node p said) error → IsRefused node p bytes error
 refused_by node p bytes said is (Frame place why) tells = absurd (tells.0 (sym tells.1))
 refused_by node p bytes said is Old tells = absurd (tells.0 (sym tells.1))
 refused_by node p bytes said is (Reader error) tells = (said, is, tells)
@@ -56,13 +56,13 @@ refused_by node p bytes said is WrongType tells = (said, is, tells)
 refused_by node p bytes said is (Slot error) tells = (said, is, tells)
 refused_by node p bytes said is OutOfMemory tells = tt
 
-pub refuses : (result : Result (Unit {0}) (TakeRefusal × List ℕ)) (node : Service) (p : ℕ) (bytes : List ℕ) (said : TheFrame Value) → IsMessage bytes said →
+pub refuses : (result : Result (Unit {0}) (TakeRefusal × List ℕ)) (node : NodeView) (p : ℕ) (bytes : List ℕ) (said : TheFrame Value) → IsMessage bytes said →
     IfErr result (λ refused. TellsOf (failed_test node p said) refused.0) → IfErr result (λ refused. IsRefused node p bytes refused.0)
 refuses result node p bytes said is tells =
     IfErr-weaker result (λ refused. TellsOf (failed_test node p said) refused.0) (λ refused. IsRefused node p bytes refused.0)
     (λ refused. refused_by node p bytes said is refused.0) tells
 
--- no refusal but want of memory tells of no test
+-- no refusal but out of memory tells of no test
 pub tells_none : (error : TakeRefusal) → TellsOf None error → error ≡ OutOfMemory
 tells_none (Frame place why) tells = absurd (tells.0 refl)
 tells_none Old tells = absurd (tells.0 refl)
@@ -77,36 +77,36 @@ tells_none OutOfMemory tells = refl
 -- ---- keys and values
 
 -- what is heard passes each test
-pub heard_tested : (node : Service) (p : ℕ) (said : TheFrame Value) (new : List (AnySlot Value)) → IsHeard node.roster node.state.id node.state.own p said node.state.slots new → failed_test node p said ≡ None
-heard_tested node p (TheFrame.Subscribe e) new heard = absurd heard.slots
-heard_tested node p (TheFrame.Unsubscribe e) new heard = absurd heard.slots
-heard_tested node p (TheFrame.Sources e ks) new heard = heard.tested
-heard_tested node p (TheFrame.Changed e v pairs) new heard = heard.tested
+pub received_tested : (node : NodeView) (p : ℕ) (said : TheFrame Value) (new : List (AnySlot Value)) → IsReceived node.roster node.state.id node.state.own p said node.state.slots new → failed_test node p said ≡ None
+received_tested node p (TheFrame.Subscribe e) new received = absurd received.slots
+received_tested node p (TheFrame.Unsubscribe e) new received = absurd received.slots
+received_tested node p (TheFrame.Sources e ks) new received = received.tested
+received_tested node p (TheFrame.Changed e v pairs) new received = received.tested
 
 -- the slots are those of the state that took it
-pub heard_state : (node : Service) (p : ℕ) (said : TheFrame Value) (new : List (AnySlot Value)) → IsHeard node.roster node.state.id node.state.own p said node.state.slots new → with_slots new node.state ≡ took p said node.state
-heard_state node p (TheFrame.Subscribe e) new heard = absurd heard.slots
-heard_state node p (TheFrame.Unsubscribe e) new heard = absurd heard.slots
-heard_state node p (TheFrame.Sources e ks) new heard = ap (λ (slots : List (AnySlot Value)). with_slots slots node.state) heard.slots
-heard_state node p (TheFrame.Changed e v pairs) new heard = ap (λ (slots : List (AnySlot Value)). with_slots slots node.state) heard.slots
+pub received_state : (node : NodeView) (p : ℕ) (said : TheFrame Value) (new : List (AnySlot Value)) → IsReceived node.roster node.state.id node.state.own p said node.state.slots new → with_slots new node.state ≡ after_taking p said node.state
+received_state node p (TheFrame.Subscribe e) new received = absurd received.slots
+received_state node p (TheFrame.Unsubscribe e) new received = absurd received.slots
+received_state node p (TheFrame.Sources e ks) new received = ap (λ (slots : List (AnySlot Value)). with_slots slots node.state) received.slots
+received_state node p (TheFrame.Changed e v pairs) new received = ap (λ (slots : List (AnySlot Value)). with_slots slots node.state) received.slots
 
 -- and it has no answer
-pub heard_quiet : (node : Service) (p : ℕ) (said : TheFrame Value) (new : List (AnySlot Value)) → IsHeard node.roster node.state.id node.state.own p said node.state.slots new → (last : Option (Emission Value)) → reply said last ≡ []
-heard_quiet node p (TheFrame.Subscribe e) new heard last = absurd heard.slots
-heard_quiet node p (TheFrame.Unsubscribe e) new heard last = absurd heard.slots
-heard_quiet node p (TheFrame.Sources e ks) new heard last = refl
-heard_quiet node p (TheFrame.Changed e v pairs) new heard last = refl
+pub received_quiet : (node : NodeView) (p : ℕ) (said : TheFrame Value) (new : List (AnySlot Value)) → IsReceived node.roster node.state.id node.state.own p said node.state.slots new → (last : Option (Emission Value)) → reply said last ≡ []
+received_quiet node p (TheFrame.Subscribe e) new received last = absurd received.slots
+received_quiet node p (TheFrame.Unsubscribe e) new received last = absurd received.slots
+received_quiet node p (TheFrame.Sources e ks) new received last = refl
+received_quiet node p (TheFrame.Changed e v pairs) new received last = refl
 
 -- a test of the slot's is a test of the node's
-unheard_tells : (node : Service) (p : ℕ) (said : TheFrame Value) (error : TakeRefusal) → TellsOf (failed_in node.roster node.state.id node.state.slots p said) error → TellsOf (failed_test node p said) error
-unheard_tells node p (TheFrame.Subscribe e) error tells = subst (λ (why : TakeRefusal). TellsOf (failed_test node p (TheFrame.Subscribe e)) why) (sym (tells_none error tells)) tt
-unheard_tells node p (TheFrame.Unsubscribe e) error tells = subst (λ (why : TakeRefusal). TellsOf (failed_test node p (TheFrame.Unsubscribe e)) why) (sym (tells_none error tells)) tt
-unheard_tells node p (TheFrame.Sources e ks) error tells = tells
-unheard_tells node p (TheFrame.Changed e v pairs) error tells = tells
+untaken_tells : (node : NodeView) (p : ℕ) (said : TheFrame Value) (error : TakeRefusal) → TellsOf (failed_in node.roster node.state.id node.state.slots p said) error → TellsOf (failed_test node p said) error
+untaken_tells node p (TheFrame.Subscribe e) error tells = subst (λ (why : TakeRefusal). TellsOf (failed_test node p (TheFrame.Subscribe e)) why) (sym (tells_none error tells)) tt
+untaken_tells node p (TheFrame.Unsubscribe e) error tells = subst (λ (why : TakeRefusal). TellsOf (failed_test node p (TheFrame.Unsubscribe e)) why) (sym (tells_none error tells)) tt
+untaken_tells node p (TheFrame.Sources e ks) error tells = tells
+untaken_tells node p (TheFrame.Changed e v pairs) error tells = tells
 
 -- bytes that are not heard are refused
-pub not_heard : (node : Service) (p : ℕ) (bytes : List ℕ) (error : TakeRefusal) → IsNotHeard node.roster node.state.id p bytes node.state.slots error → IsRefused node p bytes error
-not_heard node p bytes error (inl unread) = go error unread
+pub not_received : (node : NodeView) (p : ℕ) (bytes : List ℕ) (error : TakeRefusal) → IsRefusedFrame node.roster node.state.id p bytes node.state.slots error → IsRefused node p bytes error
+not_received node p bytes error (inl unread) = go error unread
   where
     go : (why : TakeRefusal) → IsUnread bytes why → IsRefused node p bytes why
     go (Frame place reason) none = none
@@ -118,5 +118,5 @@ not_heard node p bytes error (inl unread) = go error unread
     go WrongType none = absurd none
     go (Slot other) none = absurd none
     go OutOfMemory none = tt
-not_heard node p bytes error (inr (inl old)) = subst (λ (why : TakeRefusal). IsRefused node p bytes why) (sym old.0) old.1
-not_heard node p bytes error (inr (inr unheard)) = refused_by node p bytes unheard.0 unheard.1 error (unheard_tells node p unheard.0 error unheard.2)
+not_received node p bytes error (inr (inl old)) = subst (λ (why : TakeRefusal). IsRefused node p bytes why) (sym old.0) old.1
+not_received node p bytes error (inr (inr untaken)) = refused_by node p bytes untaken.0 untaken.1 error (untaken_tells node p untaken.0 error untaken.2)

@@ -11,13 +11,13 @@ use Rattle.svc_value.specs.declared.value.Fault.TheVariants.{Empty}
 -- the definition, or a fault where there is none
 abbrev pub defined : Option Definition → Definition
 defined None = Input (Bad Empty)
-defined (Some by) = by
+defined (Some current) = current
 
 -- the definition after a change
 abbrev pub next : Option Definition → Change → Definition
-next by change = next_definition (defined by) change
+next current change = next_definition (defined current) change
 
 -- the definitions after each of the changes
 abbrev pub coming : Option Definition → List Change → List Definition
-coming by [] = []
-coming by (change ∷ changes) = next by change ∷ coming (Some (next by change)) changes
+coming current [] = []
+coming current (change ∷ changes) = next current change ∷ coming (Some (next current change)) changes

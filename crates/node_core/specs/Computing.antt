@@ -9,4 +9,4 @@ use Rattle.svc_value.specs.declared.value.Value.{Value}
 
 -- the meaning of the definition over their values, and the union of their stamps with the own clock
 abbrev pub emission_over : ℕ → ℕ → Definition → List (Slot Value) → Emission Value
-emission_over id own by slots = record { value = meaning_of by (map (λ head. head.value) (heads slots)); stamps = raise_all ((id, own) ∷ []) (heads slots) }
+emission_over id own current slots = record { value = meaning_of current (map (λ head. head.value) (heads slots)); stamps = raise_all ((id, own) ∷ []) (heads slots) }

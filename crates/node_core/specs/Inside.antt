@@ -4,16 +4,16 @@ use Rattle.propagation.specs.Logs.{stamps_of}
 use Rattle.stamp_match.specs.Kept.{IsMatcherOf}
 use Rattle.node_core.specs.declared.node.Node.TheInside.{Inside}
 use Rattle.node_core.specs.Coming.{coming}
-use Rattle.node_core.specs.View.{Service, told_all, AreInOrder, AreCounted, AreWithin, IsDefined}
+use Rattle.node_core.specs.View.{NodeView, told_all, AreInOrder, AreCounted, AreWithin, IsDefined}
 
 -- the service
-abbrev pub service_of : Inside → Service
+abbrev pub service_of : Inside → NodeView
 service_of n = record {
   state = record {
     id = n.id;
     own = n.own;
-    by = n.by;
-    left = coming n.by (drop n.done n.changes.items);
+    definition = n.definition;
+    left = coming n.definition (drop n.done n.changes.items);
     due = n.due;
     edges = n.edges;
     slots = n.slots.items;
@@ -33,7 +33,7 @@ service_of n = record {
 pub record IsNode (n : Inside) : Type 0 where
   pub few : length n.roster ≤ 64
   pub within : n.done ≤ length n.changes.items
-  pub defined : IsDefined n.id n.own n.by (coming n.by (drop n.done n.changes.items))
+  pub defined : IsDefined n.id n.own n.definition (coming n.definition (drop n.done n.changes.items))
   pub in_order : AreInOrder n.edges n.slots.items
   pub within_layout : AreWithin n.edges n.readers.present n.last
   pub counted : AreCounted n.journal.entries n.slots.items

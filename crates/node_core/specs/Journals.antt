@@ -3,16 +3,16 @@ use Rattle.std.specs.Prelude.{◌+◌, ◌-◌, ◌≤◌}
 use Rattle.std.specs.Vec.{vec_len, vec_capacity}
 use Rattle.std.specs.VecDeque.{deque_len, deque_capacity}
 use Rattle.node_core.specs.declared.journal.Journal.TheInside.{Inside}
-use Rattle.node_core.specs.View.{Kept, IsPosted}
+use Rattle.node_core.specs.View.{JournalView, IsPosted}
 
 -- what was done
-abbrev pub kept_of : Inside → Kept
+abbrev pub kept_of : Inside → JournalView
 kept_of j = record {
   entries = j.log.items;
   outbox = j.outbox.items;
   handed = j.handed;
   entry_room = vec_capacity j.log - vec_len j.log;
-  post_room = deque_capacity j.outbox - (deque_len j.outbox + j.handed);
+  outgoing_frame_room = deque_capacity j.outbox - (deque_len j.outbox + j.handed);
 }
 
 -- there is room for what was handed over, so that it can come back

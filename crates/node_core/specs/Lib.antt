@@ -3,8 +3,8 @@ pub mod Outbox
 pub mod Coming
 pub mod View
 pub mod Inside
-pub mod Mail
-pub mod Posts
+pub mod Outgoing
+pub mod OutgoingFrames
 pub mod Journals
 pub mod Computing
 pub mod Answers
@@ -12,4 +12,4 @@ pub mod Rewiring
 pub mod Lives
 pub mod Ranks
 pub mod Taking
-pub mod Hearing
+pub mod Receiving

@@ -5,11 +5,11 @@ use Rattle.std.proofs.Common.{None}
 -- those to one service
 abbrev pub waiting : ℕ → List (ℕ × List ℕ) → List (List ℕ)
 waiting q [] = []
-waiting q (post ∷ rest) = if post.0 == q then post.1 ∷ waiting q rest else waiting q rest
+waiting q (outgoing_frame ∷ rest) = if outgoing_frame.0 == q then outgoing_frame.1 ∷ waiting q rest else waiting q rest
 
 -- the place of the first to a service
 abbrev pub first_to : ℕ → List (ℕ × List ℕ) → Option ℕ
-first_to q posts = position (λ post. post.0 == q) posts
+first_to q outgoing_frames = position (λ outgoing_frame. outgoing_frame.0 == q) outgoing_frames
 
 -- the oldest to a service is taken out, if there is one
 pub record TakesOut (q : ℕ) (old new : List (ℕ × List ℕ)) (taken : Option (List ℕ)) : Type 0 where

@@ -1,7 +1,7 @@
 -- What a change makes of frames and slots.
 use Rattle.std.specs.Prelude.{ℕ, ◌==◌, List, [], ◌∷◌, if◌then◌else◌}
 use Rattle.std.proofs.Common.{None, unwrap_or}
-use Rattle.propagation.specs.Words.{without}
+use Rattle.propagation.specs.Lists.{without}
 use Rattle.propagation.specs.Logs.{Entry as TheEntry, sends}
 use Rattle.propagation.specs.Logs.Frame.{Subscribe, Unsubscribe}
 use Rattle.service_machine.specs.Steps.{targets}

@@ -35,14 +35,14 @@ fn values_of(slots: &[Slot], values: &mut Vec<Value>) -> Result<(), OutOfMemory>
 // The meaning of a definition over the values of the heads, which are put into the list.
 fn value_by(
     alloc: Global,
-    by: &Definition,
+    definition: &Definition,
     slots: &[Slot],
     values: &mut Vec<Value>,
 ) -> Result<Value, OutOfMemory>
     requires few { length slots.now ≤ 16 }
-    ensures { IfOk result (λ value. value ≡ meaning_of by.now (map (λ head. head.value) (heads slots.now))) }
+    ensures { IfOk result (λ value. value ≡ meaning_of definition.now (map (λ head. head.value) (heads slots.now))) }
 {
-    match by {
+    match definition {
         Definition::Input(value) => value.copy(),
         Definition::Derived(formula) => {
             values_of(slots, values)?;
@@ -98,17 +98,17 @@ pub(crate) fn emission_over(
     alloc: Global,
     id: ServiceId,
     own: Clock,
-    by: &Definition,
+    definition: &Definition,
     slots: &[Slot],
     scratch: &mut Scratch,
 ) -> Result<Emission, OutOfMemory>
     requires below { id < 64 }
     requires positive { 0 < own }
     requires few { length slots.now ≤ 16 }
-    ensures emission { IfOk result (λ m. m ≡ emission_over id own by.now slots.now) }
+    ensures emission { IfOk result (λ m. m ≡ emission_over id own definition.now slots.now) }
     ensures some { IfOk result (λ m. 0 < length m.stamps) }
 {
-    let value = value_by(alloc, by, slots, &mut scratch.values)?;
+    let value = value_by(alloc, definition, slots, &mut scratch.values)?;
     let stamps = union_of(id, own, slots, scratch)?;
     Ok(Emission { value, stamps })
 }

@@ -1,6 +1,6 @@
 // The definitions that changes bring.
 ghost use Rattle.std.specs.Prelude.{◌≡◌, ◌++◌, ◌==◌, not, filter, IfOk};
-ghost use Rattle.propagation.specs.Words.{is_among};
+ghost use Rattle.propagation.specs.Lists.{is_among};
 ghost use Rattle.svc_graph.specs.History.{dependencies};
 ghost use Rattle.node_core.specs.Coming.{next};
 
@@ -11,16 +11,16 @@ use svc_value::{Fault, Ids, OutOfMemory, ServiceId, Value};
 // The definition after a change.
 pub(crate) fn next_definition(
     alloc: Global,
-    by: &Option<Definition>,
+    current: &Option<Definition>,
     change: &Change,
 ) -> Result<Definition, OutOfMemory>
-    ensures { IfOk result (λ definition. definition ≡ next by.now change.now) }
+    ensures { IfOk result (λ definition. definition ≡ next current.now change.now) }
 {
     match change {
         Change::Birth(first) => first.copy(),
         Change::Set(value) => Ok(Definition::Input(value.copy()?)),
         Change::Define(formula) => Ok(Definition::Derived(formula.copy()?)),
-        Change::Add(member) => match by {
+        Change::Add(member) => match current {
             None => Ok(Definition::Input(Value::Bad(Fault::Empty))),
             Some(Definition::Input(value)) => Ok(Definition::Input(value.copy()?)),
             Some(Definition::Derived(formula)) => {
@@ -37,7 +37,7 @@ pub(crate) fn next_definition(
                 }))
             }
         },
-        Change::Drop(member) => match by {
+        Change::Drop(member) => match current {
             None => Ok(Definition::Input(Value::Bad(Fault::Empty))),
             Some(Definition::Input(value)) => Ok(Definition::Input(value.copy()?)),
             Some(Definition::Derived(formula)) => Ok(Definition::Derived(Formula {

@@ -3,7 +3,7 @@ ghost use Rattle.std.specs.Prelude.{◌≡◌, ◌≤◌, ◌<◌, ◌^◌, leng
 ghost use Rattle.svc_value.specs.Layout.{layout};
 ghost use Rattle.wire_frame.specs.declared.frame.Frame.TheVariants.{Sources, Changed};
 ghost use Rattle.wire_frame.specs.Frames.{IsAnnounced, IsDelta, IsWithinLayout, FrameOf, frame_bytes};
-ghost use Rattle.node_core.specs.Mail.{with_epoch};
+ghost use Rattle.node_core.specs.Outgoing.{with_epoch};
 
 use std::alloc::Global;
 use svc_value::{Clock, OutOfMemory, ServiceId, Value};

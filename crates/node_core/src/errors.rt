@@ -23,7 +23,7 @@ pub enum TakeRefusal {
     WrongType,
     /// The slot of the sender refuses the keys or the value.
     Slot(SlotError),
-    /// Want of memory.
+    /// Out of memory.
     OutOfMemory,
 }
 

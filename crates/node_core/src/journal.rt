@@ -5,8 +5,8 @@ ghost use Rattle.node_core.specs.Entries.{sent_entries, sent_to};
 ghost use Rattle.node_core.specs.Outbox.{TakesOut};
 
 use crate::Entry;
-use crate::mail::Mail;
 use crate::outbox::{put_all, take_out};
+use crate::outgoing::Outgoing;
 use std::alloc::Global;
 use std::collections::VecDeque;
 use std::marker::Model;
@@ -22,9 +22,9 @@ pub(crate) struct Journal {
 }
 
 impl Model for Journal {
-    ghost use Rattle.node_core.specs.View.{Kept};
+    ghost use Rattle.node_core.specs.View.{JournalView};
 
-    ghost Value = { Kept };
+    ghost Value = { JournalView };
 
     ghost use Rattle.node_core.specs.Journals.{kept_of, IsJournal};
 
@@ -53,7 +53,7 @@ impl Journal {
     pub(crate) fn reserve(&mut self, frames: usize) -> Result<(), OutOfMemory>
         ensures same { SameKept self.old self.new }
         ensures entries { OnOk result (frames < self.new.entry_room) }
-        ensures posts { OnOk result (frames ≤ self.new.post_room) }
+        ensures outgoing_frames { OnOk result (frames ≤ self.new.outgoing_frame_room) }
     {
         self.log.reserve(frames.checked_add(1).ok_or(OutOfMemory)?)?;
         self.outbox
@@ -62,19 +62,23 @@ impl Journal {
     }
 
     // An entry and the frames that are sent after it, for which there is room; the list of the frames comes back empty.
-    #[tactic(auto, using(crate::proofs::PostLemmas::length_posted))]
-    pub(crate) fn record(&mut self, first: Entry, mut mail: Mail) -> Mail
-        requires entries { length mail < self.old.entry_room }
-        requires posts { length mail ≤ self.old.post_room }
+    #[tactic(auto, using(crate::proofs::OutgoingFrameLemmas::length_waiting_frames))]
+    pub(crate) fn record(&mut self, first: Entry, mut outgoing: Outgoing) -> Outgoing
+        requires entries { length outgoing < self.old.entry_room }
+        requires outgoing_frames { length outgoing ≤ self.old.outgoing_frame_room }
         requires first { (q : ℕ) → sent_to q (first ∷ []) ≡ [] }
-        ensures entries { self.new.entries ≡ self.old.entries ++ first ∷ sent_entries mail }
-        ensures outbox { self.new.outbox ≡ self.old.outbox ++ mail }
+        ensures entries { self.new.entries ≡ self.old.entries ++ first ∷ sent_entries outgoing }
+        ensures outbox { self.new.outbox ≡ self.old.outbox ++ outgoing }
         ensures handed { self.new.handed ≡ self.old.handed }
         ensures left { result ≡ [] }
     {
         self.log.push_reserved(first);
-        put_all(&mut self.log, &mut self.outbox, &mut mail.posts);
-        mail
+        put_all(
+            &mut self.log,
+            &mut self.outbox,
+            &mut outgoing.outgoing_frames,
+        );
+        outgoing
     }
 
     // The entries, oldest first.
@@ -116,15 +120,15 @@ impl Journal {
 
     // Takes out the oldest frame, with its receiver.
     pub(crate) fn pop_out(&mut self) -> Option<(ServiceId, Bytes)>
-        ensures some { IfSome result (λ post. self.old.outbox ≡ post ∷ self.new.outbox) }
+        ensures some { IfSome result (λ outgoing_frame. self.old.outbox ≡ outgoing_frame ∷ self.new.outbox) }
         ensures none { IsNone result → self.old.outbox ≡ [] }
         ensures kept { IsNone result → self.new.outbox ≡ self.old.outbox }
         ensures entries { self.new.entries ≡ self.old.entries }
         ensures handed { self.new.handed ≡ self.old.handed + length (option_to_list result) }
     {
-        let post = self.outbox.pop_front()?;
+        let outgoing_frame = self.outbox.pop_front()?;
         self.handed += 1;
-        Some(post)
+        Some(outgoing_frame)
     }
 
     // Puts the frame back that was taken out last of those to a service.

@@ -2,26 +2,26 @@
 //! of all that it did. Each call is one step of the machine of `service_machine`.
 #![tactic(auto)]
 
+mod admission;
 mod computing;
 mod definitions;
 mod encoding;
 mod entry;
 mod errors;
-mod heard;
-mod hearing;
 mod journal;
-mod mail;
 mod node;
 mod outbox;
+mod outgoing;
 mod ranks;
 mod reading;
+mod received;
+mod receiving;
 mod refusing;
 mod reports;
 mod rewiring;
 mod scratch;
 mod slots;
 mod telling;
-mod testing;
 mod turned;
 mod welcome;
 

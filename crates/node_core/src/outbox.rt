@@ -3,10 +3,10 @@ ghost use Rattle.std.specs.Prelude.{◌≡◌, ◌+◌, ◌≤◌, ◌<◌, [], 
 ghost use Rattle.std.specs.VecDeque.{deque_len, deque_capacity};
 ghost use Rattle.std.specs.Vec.{vec_len, vec_capacity};
 ghost use Rattle.node_core.specs.Outbox.{TakesOut};
-ghost use Rattle.node_core.specs.Posts.{posted, entered};
+ghost use Rattle.node_core.specs.OutgoingFrames.{waiting_frames, log_entries};
 
 use crate::Entry;
-use crate::mail::Post;
+use crate::outgoing::OutgoingFrame;
 use std::collections::VecDeque;
 use svc_value::{Bytes, ServiceId};
 
@@ -22,29 +22,29 @@ pub(crate) fn take_out(outbox: &mut VecDeque<(ServiceId, Bytes)>, to: ServiceId)
 }
 
 // Puts these frames behind the others in the log and in the outbox, which have room for them, and none is left.
-#[tactic(auto, using(crate::proofs::PostLemmas::posted_snoc, crate::proofs::PostLemmas::entered_snoc))]
+#[tactic(auto, using(crate::proofs::OutgoingFrameLemmas::waiting_frames_snoc, crate::proofs::OutgoingFrameLemmas::log_entries_snoc))]
 pub(crate) fn put_all(
     log: &mut Vec<Entry>,
     outbox: &mut VecDeque<(ServiceId, Bytes)>,
-    posts: &mut VecDeque<Post>,
+    outgoing_frames: &mut VecDeque<OutgoingFrame>,
 )
-    requires log_room { vec_len log.old + length posts.old.items ≤ vec_capacity log.old }
-    requires room { deque_len outbox.old + length posts.old.items ≤ deque_capacity outbox.old }
-    ensures entries { log.new.items ≡ log.old.items ++ entered posts.old.items }
-    ensures items { outbox.new.items ≡ outbox.old.items ++ posted posts.old.items }
-    ensures left { posts.new.items ≡ [] }
-    ensures len { deque_len outbox.new ≡ deque_len outbox.old + length posts.old.items }
+    requires log_room { vec_len log.old + length outgoing_frames.old.items ≤ vec_capacity log.old }
+    requires room { deque_len outbox.old + length outgoing_frames.old.items ≤ deque_capacity outbox.old }
+    ensures entries { log.new.items ≡ log.old.items ++ log_entries outgoing_frames.old.items }
+    ensures items { outbox.new.items ≡ outbox.old.items ++ waiting_frames outgoing_frames.old.items }
+    ensures left { outgoing_frames.new.items ≡ [] }
+    ensures len { deque_len outbox.new ≡ deque_len outbox.old + length outgoing_frames.old.items }
     ensures capacity { deque_capacity outbox.new ≡ deque_capacity outbox.old }
 {
-    for _ in 0..posts.len() {
-        let Some(post) = posts.pop_front() else {
+    for _ in 0..outgoing_frames.len() {
+        let Some(outgoing_frame) = outgoing_frames.pop_front() else {
             return;
         };
-        let Post {
+        let OutgoingFrame {
             to,
             logged,
             waiting,
-        } = post;
+        } = outgoing_frame;
         log.push_reserved(Entry::Sent(to, logged));
         outbox.push_back_reserved((to, waiting));
     }
@@ -54,5 +54,7 @@ pub(crate) fn put_all(
 fn first_to(outbox: &VecDeque<(ServiceId, Bytes)>, to: ServiceId) -> Option<usize>
     ensures { result ≡ Rattle.node_core.specs.Outbox.first_to to outbox.now.items }
 {
-    outbox.iter().position(|post| post.0 == to)
+    outbox
+        .iter()
+        .position(|outgoing_frame| outgoing_frame.0 == to)
 }

@@ -1,12 +1,12 @@
 // What a node knows of other services.
 ghost use Rattle.std.specs.Prelude.{◌≡◌, ◌<◌, ◌≤◌, length, slice_get, IsSome};
-ghost use Rattle.propagation.specs.Words.{is_among};
+ghost use Rattle.propagation.specs.Lists.{is_among};
 ghost use Rattle.service_machine.specs.Refusing.{is_below as below, bad_key as first_bad_key};
 ghost use Rattle.node_core.specs.Ranks.{rank_in, typed_in};
 
 use svc_graph::Kind;
 use svc_value::{ServiceId, Value};
-use wire_frame::KeysIn;
+use wire_frame::KeysRef;
 
 // The rank and the type of a service, where it is known.
 fn kind_of(roster: &[Kind], id: ServiceId) -> Option<Kind>
@@ -39,7 +39,7 @@ pub(crate) fn is_typed(roster: &[Kind], id: ServiceId, value: &Value) -> bool
 }
 
 // Whether the service is among the keys.
-pub(crate) fn is_key(keys: &KeysIn<'_>, id: ServiceId) -> bool
+pub(crate) fn is_key(keys: &KeysRef<'_>, id: ServiceId) -> bool
     ensures { result ≡ is_among keys.now id }
 {
     for key in keys.iter() {
@@ -51,7 +51,7 @@ pub(crate) fn is_key(keys: &KeysIn<'_>, id: ServiceId) -> bool
 }
 
 // The first key that is not the sender's and not known to be of a lower rank.
-pub(crate) fn bad_key(roster: &[Kind], sender: ServiceId, keys: &KeysIn<'_>) -> Option<ServiceId>
+pub(crate) fn bad_key(roster: &[Kind], sender: ServiceId, keys: &KeysRef<'_>) -> Option<ServiceId>
     ensures { result ≡ first_bad_key (rank_in roster.now) sender keys.now }
 {
     for key in keys.iter() {

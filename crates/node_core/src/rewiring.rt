@@ -1,18 +1,18 @@
 // What a change makes of the edges and the slots of a service.
 ghost use Rattle.std.specs.Prelude.{◌≡◌, ◌≤◌, ◌+◌, ◌++◌, [], ℕ, Some, None, All, unwrap_or, length, vec_len, vec_capacity, IfOk, OnOk};
-ghost use Rattle.propagation.specs.Words.{without, is_among, Apart};
+ghost use Rattle.propagation.specs.Lists.{without, is_among, AreDistinct};
 ghost use Rattle.propagation.specs.Logs.{sends};
 ghost use Rattle.propagation.specs.Logs.Frame.{Subscribe as TheSubscribe, Unsubscribe as TheUnsubscribe};
 ghost use Rattle.service_machine.specs.States.{epoch_in, slot_at, cut, edges_to};
 ghost use Rattle.service_machine.specs.Steps.{targets, cut_to, cut_others};
 ghost use Rattle.svc_graph.specs.History.{dependencies};
 ghost use Rattle.node_core.specs.Coming.{next};
-ghost use Rattle.node_core.specs.Mail.{Says};
+ghost use Rattle.node_core.specs.Outgoing.{Says};
 ghost use Rattle.node_core.specs.View.{senders};
 ghost use Rattle.node_core.specs.Rewiring.{left_without, cut_rest, rewired_frames};
 
 use crate::definitions::{dependencies_of, has, next_definition};
-use crate::mail::Mail;
+use crate::outgoing::Outgoing;
 use pred_queue::Slot;
 use rewire_core::Edges;
 use std::alloc::Global;
@@ -20,40 +20,44 @@ use svc_graph::{Change, Definition};
 use svc_value::{Clock, OutOfMemory, ServiceId};
 
 // Unsubscribe to each dependency that is not among these services.
-fn mail_leaving(alloc: Global, edges: &Edges, ids: &[ServiceId]) -> Result<Mail, OutOfMemory>
+fn outgoing_leaving(
+    alloc: Global,
+    edges: &Edges,
+    ids: &[ServiceId],
+) -> Result<Outgoing, OutOfMemory>
     requires { All (λ edge. 1 ≤ edge.1) edges.now }
-    ensures { IfOk result (λ mail. Says mail (sends (λ p. TheUnsubscribe (unwrap_or (epoch_in edges.now p) 0)) (without (targets edges.now) ids.now))) }
+    ensures { IfOk result (λ outgoing. Says outgoing (sends (λ p. TheUnsubscribe (unwrap_or (epoch_in edges.now p) 0)) (without (targets edges.now) ids.now))) }
 {
-    let mut mail = Mail::new(alloc);
+    let mut outgoing = Outgoing::new(alloc);
     for edge in edges.as_slice() {
         if has(ids, edge.0) {
             continue;
         }
         let epoch = edges.epoch(edge.0).unwrap_or(Clock(0));
-        mail.unsubscribe(edge.0, epoch)?;
+        outgoing.unsubscribe(edge.0, epoch)?;
     }
-    Ok(mail)
+    Ok(outgoing)
 }
 
 // And Subscribe to each of these services that is no dependency yet.
-pub(crate) fn mail_rewiring(
+pub(crate) fn outgoing_rewiring(
     alloc: Global,
     edges: &Edges,
     ids: &[ServiceId],
     clock: Clock,
-) -> Result<Mail, OutOfMemory>
+) -> Result<Outgoing, OutOfMemory>
     requires epochs { All (λ edge. 1 ≤ edge.1) edges.now }
     requires clock { 1 ≤ clock }
-    ensures { IfOk result (λ mail. Says mail (rewired_frames edges.now clock ids.now)) }
+    ensures { IfOk result (λ outgoing. Says outgoing (rewired_frames edges.now clock ids.now)) }
 {
-    let mut mail = mail_leaving(alloc, edges, ids)?;
+    let mut outgoing = outgoing_leaving(alloc, edges, ids)?;
     for id in ids {
         if edges.epoch(*id).is_some() {
             continue;
         }
-        mail.subscribe(*id, clock)?;
+        outgoing.subscribe(*id, clock)?;
     }
-    Ok(mail)
+    Ok(outgoing)
 }
 
 // The slots of these dependencies first, in their order, and then the others, all cut at the clock. There is room for them.
@@ -66,8 +70,8 @@ pub(crate) fn rewire_slots(
 ) -> Vec<Slot>
     requires empty { new.items ≡ [] }
     requires room { length edges.now + length old.items ≤ vec_capacity new }
-    requires apart { Apart (senders old.items) }
-    requires targets { Apart (targets edges.now) }
+    requires apart { AreDistinct (senders old.items) }
+    requires targets { AreDistinct (targets edges.now) }
     ensures { result.items ≡ cut_to edges.now clock old.items ++ cut_others (targets edges.now) clock old.items }
 {
     for i in 0..edges.len() {
@@ -96,14 +100,14 @@ fn cut_all(new: &mut Vec<Slot>, old: Vec<Slot>, clock: Clock)
 pub(crate) struct Rewired {
     pub(crate) definition: Definition,
     pub(crate) edges: Edges,
-    pub(crate) mail: Mail,
+    pub(crate) outgoing: Outgoing,
     pub(crate) room: Vec<Slot>,
 }
 
 // What the change brings at the clock, for a service with this definition, these edges and so many slots.
 pub(crate) fn prepare_change(
     alloc: Global,
-    by: &Option<Definition>,
+    current: &Option<Definition>,
     change: &Change,
     edges: &Edges,
     slots: usize,
@@ -111,22 +115,22 @@ pub(crate) fn prepare_change(
 ) -> Result<Rewired, OutOfMemory>
     requires epochs { All (λ edge. 1 ≤ edge.1) edges.now }
     requires clock { 1 ≤ clock }
-    ensures definition { IfOk result (λ r. r.definition ≡ next by.now change.now) }
-    ensures edges { IfOk result (λ r. r.edges ≡ edges_to edges.now clock (dependencies (next by.now change.now))) }
-    ensures mail { IfOk result (λ r. Says r.mail (rewired_frames edges.now clock (dependencies (next by.now change.now)))) }
+    ensures definition { IfOk result (λ r. r.definition ≡ next current.now change.now) }
+    ensures edges { IfOk result (λ r. r.edges ≡ edges_to edges.now clock (dependencies (next current.now change.now))) }
+    ensures outgoing { IfOk result (λ r. Says r.outgoing (rewired_frames edges.now clock (dependencies (next current.now change.now)))) }
     ensures empty { IfOk result (λ r. r.room.items ≡ []) }
     ensures room { IfOk result (λ r. length r.edges + slots ≤ vec_capacity r.room) }
 {
-    let definition = next_definition(alloc, by, change)?;
+    let definition = next_definition(alloc, current, change)?;
     let ids = dependencies_of(alloc, &definition)?;
     let next = edges.rewired(ids.as_slice(), clock)?;
-    let mail = mail_rewiring(alloc, edges, ids.as_slice(), clock)?;
+    let outgoing = outgoing_rewiring(alloc, edges, ids.as_slice(), clock)?;
     let count = next.len().checked_add(slots);
     let room = Vec::with_capacity(alloc, count.ok_or(OutOfMemory)?)?;
     Ok(Rewired {
         definition,
         edges: next,
-        mail,
+        outgoing,
         room,
     })
 }

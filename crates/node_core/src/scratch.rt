@@ -1,5 +1,5 @@
 // What an event is made ready in.
-use crate::mail::Mail;
+use crate::outgoing::Outgoing;
 use pred_queue::Emission;
 use std::alloc::Global;
 use std::mem;
@@ -13,7 +13,7 @@ pub(crate) struct Scratch {
     alloc: Global,
     pub(crate) values: Vec<Value>,
     pub(crate) places: Vec<PlaceClock>,
-    mail: Mail,
+    outgoing: Outgoing,
     stamps: Clocks,
     joined: Clocks,
 }
@@ -25,15 +25,15 @@ impl Scratch {
             alloc,
             values: Vec::new(alloc),
             places: Vec::new(alloc),
-            mail: Mail::new(alloc),
+            outgoing: Outgoing::new(alloc),
             stamps: Clocks::new(alloc),
             joined: Clocks::new(alloc),
         }
     }
 
     // A list for frames.
-    pub(crate) fn take_mail(&mut self) -> Mail {
-        mem::replace(&mut self.mail, Mail::new(self.alloc))
+    pub(crate) fn take_outgoing(&mut self) -> Outgoing {
+        mem::replace(&mut self.outgoing, Outgoing::new(self.alloc))
     }
 
     // A list for the clocks of new stamps.
@@ -47,8 +47,8 @@ impl Scratch {
     }
 
     // A list of frames that is needed no longer.
-    pub(crate) fn keep_mail(&mut self, mail: Mail) {
-        let _ = mem::replace(&mut self.mail, mail);
+    pub(crate) fn keep_outgoing(&mut self, outgoing: Outgoing) {
+        let _ = mem::replace(&mut self.outgoing, outgoing);
     }
 
     // Clocks of stamps that were joined to others.

@@ -1,7 +1,7 @@
 // The slots of a node.
 ghost use Rattle.std.specs.Prelude.{◌≡◌, ◌+◌, ◌<◌, ◌≤◌, ◌↔◌, ℕ, [], true, length, take, slice_set, IsTrue};
 ghost use Rattle.pred_queue.specs.Capped.{capped};
-ghost use Rattle.propagation.specs.Words.{Apart};
+ghost use Rattle.propagation.specs.Lists.{AreDistinct};
 ghost use Rattle.service_machine.specs.States.{advanced, has_next, raise, slot_at};
 ghost use Rattle.service_machine.specs.Openings.{first_slots};
 ghost use Rattle.service_machine.specs.Turning.{slots_of};
@@ -28,7 +28,7 @@ pub(crate) fn begin_all(slots: &mut Vec<Slot>)
 
 // Whether nothing waits in any slot.
 pub(crate) fn all_idle(slots: &[Slot]) -> bool
-    requires { Apart (senders slots.now) }
+    requires { AreDistinct (senders slots.now) }
     ensures { IsTrue result ↔ ((p : ℕ) → (slot_at slots.now p).queue ≡ []) }
 {
     for slot in slots {

@@ -5,11 +5,11 @@ ghost use Rattle.propagation.specs.Stamps.{same_keys as have_same_keys};
 ghost use Rattle.service_machine.specs.Steps.{reports, sends_to};
 ghost use Rattle.stamp_clock.specs.Beside.{AreStamps};
 ghost use Rattle.wire_frame.specs.Frames.{IsAnnounced, IsDelta};
-ghost use Rattle.node_core.specs.Mail.{Says, each_told, value_letter, full_letter};
+ghost use Rattle.node_core.specs.Outgoing.{Says, each_told, value_frames, full_frames};
 ghost use Rattle.node_core.specs.View.{told_all};
 
 use crate::encoding::{sources_bytes, value_bytes};
-use crate::mail::Mail;
+use crate::outgoing::Outgoing;
 use crate::reports::{all_places_of, changes_of, keys_of, same_keys};
 use crate::scratch::Scratch;
 use pred_queue::Emission;
@@ -20,61 +20,61 @@ use wire_frame::PlaceClock;
 
 // A value to each reader under its epoch, in a list of frames that is empty. The bytes are made once, under the epoch of the
 // last one, to which they go.
-fn mail_values(
+fn outgoing_values(
     alloc: Global,
     readers: &[(ServiceId, Clock)],
     value: &Value,
     clocks: &[PlaceClock],
-    mut mail: Mail,
-) -> Result<Mail, OutOfMemory>
+    mut outgoing: Outgoing,
+) -> Result<Outgoing, OutOfMemory>
     requires epochs { All (λ reader. 1 ≤ reader.1) readers.now }
     requires layout { IsDelta (record { epoch = 1; value = value.now; clocks = clocks.now }) }
-    requires empty { mail ≡ [] }
-    ensures { IfOk result (λ mail. Says mail (each_told readers.now (value_letter (record { epoch = 1; value = value.now; clocks = clocks.now })))) }
+    requires empty { outgoing ≡ [] }
+    ensures { IfOk result (λ outgoing. Says outgoing (each_told readers.now (value_frames (record { epoch = 1; value = value.now; clocks = clocks.now })))) }
 {
     let Some(last) = readers.len().checked_sub(1) else {
-        return Ok(mail);
+        return Ok(outgoing);
     };
     let end = readers[last];
     let value = value_bytes(alloc, end.1, value, clocks)?;
     for i in 0..last {
         let reader = readers[i];
-        mail.add_under(reader.0, value.as_slice(), reader.1)?;
+        outgoing.add_under(reader.0, value.as_slice(), reader.1)?;
     }
-    mail.add(end.0, value)?;
-    Ok(mail)
+    outgoing.add(end.0, value)?;
+    Ok(outgoing)
 }
 
 // Keys and a value to each reader under its epoch, in a list of frames that is empty. The bytes are made once, under the epoch
 // of the last one, to which they go.
-fn mail_in_full(
+fn outgoing_in_full(
     alloc: Global,
     readers: &[(ServiceId, Clock)],
     keys: &[ServiceId],
     value: &Value,
     clocks: &[PlaceClock],
-    mut mail: Mail,
-) -> Result<Mail, OutOfMemory>
+    mut outgoing: Outgoing,
+) -> Result<Outgoing, OutOfMemory>
     requires epochs { All (λ reader. 1 ≤ reader.1) readers.now }
     requires keys { IsAnnounced (record { epoch = 1; keys = keys.now }) }
     requires layout { IsDelta (record { epoch = 1; value = value.now; clocks = clocks.now }) }
-    requires empty { mail ≡ [] }
-    ensures { IfOk result (λ mail. Says mail (each_told readers.now (full_letter (record { epoch = 1; keys = keys.now }) (record { epoch = 1; value = value.now; clocks = clocks.now })))) }
+    requires empty { outgoing ≡ [] }
+    ensures { IfOk result (λ outgoing. Says outgoing (each_told readers.now (full_frames (record { epoch = 1; keys = keys.now }) (record { epoch = 1; value = value.now; clocks = clocks.now })))) }
 {
     let Some(last) = readers.len().checked_sub(1) else {
-        return Ok(mail);
+        return Ok(outgoing);
     };
     let end = readers[last];
     let sources = sources_bytes(alloc, end.1, keys)?;
     let value = value_bytes(alloc, end.1, value, clocks)?;
     for i in 0..last {
         let reader = readers[i];
-        mail.add_under(reader.0, sources.as_slice(), reader.1)?;
-        mail.add_under(reader.0, value.as_slice(), reader.1)?;
+        outgoing.add_under(reader.0, sources.as_slice(), reader.1)?;
+        outgoing.add_under(reader.0, value.as_slice(), reader.1)?;
     }
-    mail.add(end.0, sources)?;
-    mail.add(end.0, value)?;
-    Ok(mail)
+    outgoing.add(end.0, sources)?;
+    outgoing.add(end.0, value)?;
+    Ok(outgoing)
 }
 
 // The emission in full to each reader.
@@ -83,23 +83,23 @@ pub(crate) fn tell_in_full(
     readers: &[(ServiceId, Clock)],
     emission: &Emission,
     scratch: &mut Scratch,
-) -> Result<Mail, OutOfMemory>
+) -> Result<Outgoing, OutOfMemory>
     requires epochs { All (λ reader. 1 ≤ reader.1) readers.now }
     requires some { 0 < length emission.now.stamps }
-    ensures { IfOk result (λ mail. Says mail (each_told readers.now (λ epoch. in_full epoch emission.now))) }
+    ensures { IfOk result (λ outgoing. Says outgoing (each_told readers.now (λ epoch. in_full epoch emission.now))) }
 {
     let stamps = &emission.stamps;
     let keys = keys_of(alloc, stamps)?;
-    let mail = scratch.take_mail().emptied();
+    let outgoing = scratch.take_outgoing().emptied();
     all_places_of(stamps, &mut scratch.places)?;
     let clocks = scratch.places.as_slice();
-    mail_in_full(
+    outgoing_in_full(
         alloc,
         readers,
         keys.as_slice(),
         &emission.value,
         clocks,
-        mail,
+        outgoing,
     )
 }
 
@@ -110,15 +110,15 @@ fn tell_changes(
     told: &Stamps,
     emission: &Emission,
     scratch: &mut Scratch,
-) -> Result<Mail, OutOfMemory>
+) -> Result<Outgoing, OutOfMemory>
     requires epochs { All (λ reader. 1 ≤ reader.1) readers.now }
     requires same { have_same_keys told.now emission.now.stamps ≡ true }
-    ensures { IfOk result (λ mail. Says mail (each_told readers.now (λ epoch. tell epoch told.now emission.now))) }
+    ensures { IfOk result (λ outgoing. Says outgoing (each_told readers.now (λ epoch. tell epoch told.now emission.now))) }
 {
-    let mail = scratch.take_mail().emptied();
+    let outgoing = scratch.take_outgoing().emptied();
     changes_of(told, &emission.stamps, &mut scratch.places)?;
     let clocks = scratch.places.as_slice();
-    mail_values(alloc, readers, &emission.value, clocks, mail)
+    outgoing_values(alloc, readers, &emission.value, clocks, outgoing)
 }
 
 // The frames that tell an emission to readers that were told the stamps `told` last.
@@ -128,10 +128,10 @@ fn tell_after(
     told: &Stamps,
     emission: &Emission,
     scratch: &mut Scratch,
-) -> Result<Mail, OutOfMemory>
+) -> Result<Outgoing, OutOfMemory>
     requires epochs { All (λ reader. 1 ≤ reader.1) readers.now }
     requires some { 0 < length emission.now.stamps }
-    ensures { IfOk result (λ mail. Says mail (reports (told_all told.now readers.now) emission.now)) }
+    ensures { IfOk result (λ outgoing. Says outgoing (reports (told_all told.now readers.now) emission.now)) }
 {
     if same_keys(told, &emission.stamps) {
         tell_changes(alloc, readers, told, emission, scratch)
@@ -147,13 +147,13 @@ pub(crate) fn tell_all(
     last: &Option<Emission>,
     emission: &Emission,
     scratch: &mut Scratch,
-) -> Result<Mail, OutOfMemory>
+) -> Result<Outgoing, OutOfMemory>
     requires epochs { All (λ reader. 1 ≤ reader.1) readers.now }
     requires some { 0 < length emission.now.stamps }
-    ensures { IfOk result (λ mail. Says mail (reports (told_all (stamps_of last.now) readers.now) emission.now)) }
+    ensures { IfOk result (λ outgoing. Says outgoing (reports (told_all (stamps_of last.now) readers.now) emission.now)) }
 {
     if readers.is_empty() {
-        return Ok(Mail::new(alloc));
+        return Ok(Outgoing::new(alloc));
     }
     match last {
         None => tell_in_full(alloc, readers, emission, scratch),

@@ -3,11 +3,11 @@ ghost use Rattle.std.specs.Prelude.{◌≡◌, ◌≤◌, ◌<◌, ◌∷◌, []
 ghost use Rattle.propagation.specs.Logs.{Emission as TheEmission, welcome as welcome_to};
 ghost use Rattle.service_machine.specs.Steps.{sends_to};
 ghost use Rattle.svc_value.specs.declared.value.Value.{Value};
-ghost use Rattle.node_core.specs.Mail.{Says};
+ghost use Rattle.node_core.specs.Outgoing.{Says};
 ghost use Rattle.node_core.specs.View.{SameKept};
 
 use crate::journal::Journal;
-use crate::mail::Mail;
+use crate::outgoing::Outgoing;
 use crate::scratch::Scratch;
 use crate::telling::tell_in_full;
 use pred_queue::Emission;
@@ -21,13 +21,13 @@ fn welcome(
     epoch: Clock,
     last: &Option<Emission>,
     scratch: &mut Scratch,
-) -> Result<Mail, OutOfMemory>
+) -> Result<Outgoing, OutOfMemory>
     requires epoch { 1 ≤ epoch }
     requires some { (m : TheEmission Value) → last.now ≡ Some m → 0 < length m.stamps }
-    ensures { IfOk result (λ mail. Says mail (sends_to reader (welcome_to epoch last.now))) }
+    ensures { IfOk result (λ outgoing. Says outgoing (sends_to reader (welcome_to epoch last.now))) }
 {
     match last {
-        None => Ok(Mail::new(alloc)),
+        None => Ok(Outgoing::new(alloc)),
         Some(emission) => tell_in_full(alloc, &[(reader, epoch)], emission, scratch),
     }
 }
@@ -40,15 +40,15 @@ pub(crate) fn staged_welcome(
     epoch: Clock,
     last: &Option<Emission>,
     scratch: &mut Scratch,
-) -> Result<Mail, OutOfMemory>
+) -> Result<Outgoing, OutOfMemory>
     requires epoch { 1 ≤ epoch }
     requires some { (m : TheEmission Value) → last.now ≡ Some m → 0 < length m.stamps }
-    ensures says { IfOk result (λ mail. Says mail (sends_to reader (welcome_to epoch last.now))) }
+    ensures says { IfOk result (λ outgoing. Says outgoing (sends_to reader (welcome_to epoch last.now))) }
     ensures same { SameKept journal.old journal.new }
-    ensures entries { IfOk result (λ mail. length mail < journal.new.entry_room) }
-    ensures posts { IfOk result (λ mail. length mail ≤ journal.new.post_room) }
+    ensures entries { IfOk result (λ outgoing. length outgoing < journal.new.entry_room) }
+    ensures outgoing_frames { IfOk result (λ outgoing. length outgoing ≤ journal.new.outgoing_frame_room) }
 {
-    let mail = welcome(alloc, reader, epoch, last, scratch)?;
-    journal.reserve(mail.len())?;
-    Ok(mail)
+    let outgoing = welcome(alloc, reader, epoch, last, scratch)?;
+    journal.reserve(outgoing.len())?;
+    Ok(outgoing)
 }

@@ -1,11 +1,11 @@
 -- What the changes of a leg bring, and what keeps a service.
 use Rattle.std.proofs.Common.{◌≡◌, ℕ, suc, ◌+◌, ◌-◌, ◌<◌, ◌≤◌, ◌++◌, List, [], ◌∷◌, length, length-append, append_assoc, append-nil, slice_get, Option, Some, None, true, false, true≢false, refl, sym, ap, ap₂, subst, ◌∙◌, arith}
 use Rattle.std.specs.Prelude.{Bool, Result, Ok, Err, OnOk, OnErr, IfErr, ⊤}
-use Rattle.propagation.specs.Words.{Has}
+use Rattle.propagation.specs.Lists.{Has}
 use Rattle.propagation.proofs.Lists.{Has-append_right}
 use Rattle.service_machine.specs.Openings.{opened_with}
 use Rattle.service_machine.specs.States.{State}
-use Rattle.service_machine.specs.Steps.{done, done_with, took, turned, turned_to, computed, chosen}
+use Rattle.service_machine.specs.Steps.{after_changing, done_with, after_taking, after_turning, turned_to, after_computing, choice_of}
 use Rattle.service_machine.specs.Turning.{Choice}
 use Rattle.service_machine.specs.Turning.Choice.{Advance, Compute, Empty, Lags, Still}
 use Rattle.propagation.specs.Logs.{Frame as TheFrame}
@@ -17,14 +17,14 @@ use Rattle.svc_graph.specs.declared.definition.Change.{Change}
 use Rattle.svc_graph.specs.declared.definition.Change.TheVariants.{Birth, Set, Add, Drop, Define}
 use Rattle.svc_graph.specs.declared.definition.Definition.{Definition}
 use Rattle.svc_graph.specs.declared.kind.Kind.{Kind}
-use Rattle.svc_graph.specs.History.{Row, brought, dependencies, history_of, is_birth, meaning_of, present, roster_of}
+use Rattle.svc_graph.specs.History.{Row, definitions_brought, dependencies, history_of, is_birth, meaning_of, present, roster_of}
 use Rattle.svc_value.specs.declared.errors.OutOfMemory.{OutOfMemory}
 use Rattle.svc_value.specs.declared.value.Value.{Value}
 use Rattle.node_core.specs.Coming.{coming, next}
 use Rattle.node_core.specs.declared.errors.TakeRefusal.{TakeRefusal}
 use Rattle.node_core.specs.declared.turned.Turned.{Turned}
 use Rattle.node_core.specs.Taking.{Takes}
-use Rattle.node_core.specs.View.{Service as TheService}
+use Rattle.node_core.specs.View.{NodeView as TheService}
 use Rattle.node_tests.specs.Serving.{last_of, GoesOn, Keeps}
 
 -- ---- changes
@@ -55,7 +55,7 @@ history-more h now after cs c so is =
     ∙ ap (λ ds. h ++ ds) (sym (coming-more (present h) cs c))
 
 -- a birth brings the first definition
-birth-brought : (c : Change) → is_birth c ≡ true → brought None c ≡ next None c ∷ []
+birth-brought : (c : Change) → is_birth c ≡ true → definitions_brought None c ≡ next None c ∷ []
 birth-brought (Birth first) h = refl
 birth-brought (Set value) h = absurd (true≢false (sym h))
 birth-brought (Add member) h = absurd (true≢false (sym h))
@@ -63,10 +63,10 @@ birth-brought (Drop member) h = absurd (true≢false (sym h))
 birth-brought (Define formula) h = absurd (true≢false (sym h))
 
 -- and any change the next one
-pub brought-next : (h : List Definition) (c : Change) → (h ≡ [] → is_birth c ≡ true) → brought (present h) c ≡ next (present h) c ∷ []
+pub brought-next : (h : List Definition) (c : Change) → (h ≡ [] → is_birth c ≡ true) → definitions_brought (present h) c ≡ next (present h) c ∷ []
 brought-next h c first = go (present h) refl
   where
-    go : (o : Option Definition) → present h ≡ o → brought o c ≡ next o c ∷ []
+    go : (o : Option Definition) → present h ≡ o → definitions_brought o c ≡ next o c ∷ []
     go None is = birth-brought c (first (present-None h is))
     go (Some d) is = refl
 
@@ -76,31 +76,31 @@ brought-next h c first = go (present h) refl
 pub record Same (old new : State Value Definition) : Type 0 where
   pub id : new.id ≡ old.id
   pub own : new.own ≡ old.own
-  pub by : new.by ≡ old.by
+  pub definition : new.definition ≡ old.definition
   pub left : new.left ≡ old.left
 
 plain : (s : State Value Definition) → Same s s
-plain s = record { id = refl; own = refl; by = refl; left = refl }
+plain s = record { id = refl; own = refl; definition = refl; left = refl }
 
-same_turned : (s : State Value Definition) → Same s (turned meaning_of s)
-same_turned s = go (chosen s)
+same_turned : (s : State Value Definition) → Same s (after_turning meaning_of s)
+same_turned s = go (choice_of s)
   where
-    work : (o : Option Definition) → Same s (computed meaning_of s o)
+    work : (o : Option Definition) → Same s (after_computing meaning_of s o)
     work None = plain s
-    work (Some d) = record { id = refl; own = refl; by = refl; left = refl }
+    work (Some d) = record { id = refl; own = refl; definition = refl; left = refl }
 
     go : (c : Choice) → Same s (turned_to meaning_of s c)
-    go (Advance p) = record { id = refl; own = refl; by = refl; left = refl }
-    go Compute = work s.by
+    go (Advance p) = record { id = refl; own = refl; definition = refl; left = refl }
+    go Compute = work s.definition
     go (Empty p) = plain s
     go (Lags p key) = plain s
     go Still = plain s
 
-same_took : (p : ℕ) (f : TheFrame Value) (s : State Value Definition) → Same s (took p f s)
-same_took p (Subscribe e) s = record { id = refl; own = refl; by = refl; left = refl }
-same_took p (Unsubscribe e) s = record { id = refl; own = refl; by = refl; left = refl }
-same_took p (Sources e ks) s = record { id = refl; own = refl; by = refl; left = refl }
-same_took p (Changed e v pairs) s = record { id = refl; own = refl; by = refl; left = refl }
+same_took : (p : ℕ) (f : TheFrame Value) (s : State Value Definition) → Same s (after_taking p f s)
+same_took p (Subscribe e) s = record { id = refl; own = refl; definition = refl; left = refl }
+same_took p (Unsubscribe e) s = record { id = refl; own = refl; definition = refl; left = refl }
+same_took p (Sources e ks) s = record { id = refl; own = refl; definition = refl; left = refl }
+same_took p (Changed e v pairs) s = record { id = refl; own = refl; definition = refl; left = refl }
 
 -- what leaves them goes on
 goes_after : (old new : TheService) (after : State Value Definition) → new.state ≡ after → Same old.state after → GoesOn old new
@@ -109,24 +109,24 @@ goes_after old new after is same id rows kept =
       declared = kept.declared;
       id_is = ap (λ (s : State Value Definition). s.id) is ∙ same.id ∙ kept.id_is;
       clock = ap (λ (s : State Value Definition). s.own + length s.left) is ∙ ap₂ (λ (n : ℕ) (ds : List Definition). n + length ds) same.own same.left ∙ kept.clock;
-      last = ap (λ (s : State Value Definition). last_of s.by s.left) is ∙ ap₂ last_of same.by same.left ∙ kept.last;
+      last = ap (λ (s : State Value Definition). last_of s.definition s.left) is ∙ ap₂ last_of same.definition same.left ∙ kept.last;
     }
 
 pub stays : (old new : TheService) → new.state ≡ old.state → GoesOn old new
 stays old new is = goes_after old new old.state is (plain old.state)
 
 -- a turn
-pub goes_turned : (r : Result Turned OutOfMemory) (old new : TheService) → OnOk r (new.state ≡ turned meaning_of old.state) → OnErr r (new ≡ old) → GoesOn old new
-goes_turned (Ok t) old new is _ = goes_after old new (turned meaning_of old.state) is (same_turned old.state)
+pub goes_turned : (r : Result Turned OutOfMemory) (old new : TheService) → OnOk r (new.state ≡ after_turning meaning_of old.state) → OnErr r (new ≡ old) → GoesOn old new
+goes_turned (Ok t) old new is _ = goes_after old new (after_turning meaning_of old.state) is (same_turned old.state)
 goes_turned (Err e) old new _ is = stays old new (ap (λ (s : TheService). s.state) is)
 
 -- a taken frame
 pub goes_took : (r : Result ⊤ (TakeRefusal × List ℕ)) (old new : TheService) (p : ℕ) (bytes : List ℕ) → OnOk r (Takes p bytes old new) → IfErr r (λ refused. (new ≡ old) × (refused.1 ≡ bytes)) → GoesOn old new
-goes_took (Ok t) old new p bytes takes _ = goes_after old new (took p takes.said old.state) takes.state (same_took p takes.said old.state)
+goes_took (Ok t) old new p bytes takes _ = goes_after old new (after_taking p takes.said old.state) takes.state (same_took p takes.said old.state)
 goes_took (Err e) old new p bytes _ is = stays old new (ap (λ (s : TheService). s.state) is.0)
 
 -- a change that is done
-kept_done : (old new : TheService) → new.state ≡ done dependencies old.state → GoesOn old new
+kept_done : (old new : TheService) → new.state ≡ after_changing dependencies old.state → GoesOn old new
 kept_done old new is id rows kept = go old.state.left refl
   where
     go : (ds : List Definition) → old.state.left ≡ ds → Keeps id new rows
@@ -138,10 +138,10 @@ kept_done old new is id rows kept = go old.state.left refl
           declared = kept.declared;
           id_is = ap (λ (s : State Value Definition). s.id) after ∙ kept.id_is;
           clock = ap (λ (s : State Value Definition). s.own + length s.left) after ∙ (let count : suc old.state.own + length rest ≡ old.state.own + suc (length rest) = omega arith in count) ∙ clock;
-          last = ap (λ (s : State Value Definition). last_of s.by s.left) after ∙ ap (λ ds. last_of old.state.by ds) (sym more) ∙ kept.last;
+          last = ap (λ (s : State Value Definition). last_of s.definition s.left) after ∙ ap (λ ds. last_of old.state.definition ds) (sym more) ∙ kept.last;
         }
 
-pub goes_done : (r : Result Bool OutOfMemory) (old new : TheService) → OnOk r (new.state ≡ done dependencies old.state) → OnErr r (new ≡ old) → GoesOn old new
+pub goes_done : (r : Result Bool OutOfMemory) (old new : TheService) → OnOk r (new.state ≡ after_changing dependencies old.state) → OnErr r (new ≡ old) → GoesOn old new
 goes_done (Ok b) old new is _ = kept_done old new is
 goes_done (Err e) old new _ is = stays old new (ap (λ (s : TheService). s.state) is)
 
@@ -154,63 +154,63 @@ pub record Brings (id : ℕ) (rows after : List Row) (changes : List Change) : T
 
 module _ (id : ℕ) (old : TheService) (rows after : List Row) (changes : List Change) (kept : Keeps id old rows) (none : old.state.left ≡ []) (brings : Brings id rows after changes) where
   -- the definition of the node is the last one
-  by_is : old.state.by ≡ present (history_of rows id)
-  by_is = ap (λ ds. last_of old.state.by ds) (sym none) ∙ kept.last
+  definition_is : old.state.definition ≡ present (history_of rows id)
+  definition_is = ap (λ ds. last_of old.state.definition ds) (sym none) ∙ kept.last
 
   own_is : old.state.own + 0 ≡ length (history_of rows id)
   own_is = ap (λ (ds : List Definition). old.state.own + length ds) (sym none) ∙ kept.clock
 
-  history_is : history_of after id ≡ history_of rows id ++ coming old.state.by changes
-  history_is = brings.history ∙ ap (λ o. history_of rows id ++ coming o changes) (sym by_is)
+  history_is : history_of after id ≡ history_of rows id ++ coming old.state.definition changes
+  history_is = brings.history ∙ ap (λ o. history_of rows id ++ coming o changes) (sym definition_is)
 
   known_after : id < length after
   known_after = (let known = kept.declared in let len = brings.len in omega (arith, known, len))
 
-  opened_keeps : (new : TheService) → new.state ≡ opened_with (coming old.state.by changes) (opened_with [] old.state) → Keeps id new after
+  opened_keeps : (new : TheService) → new.state ≡ opened_with (coming old.state.definition changes) (opened_with [] old.state) → Keeps id new after
   opened_keeps new is =
       record {
         declared = known_after;
         id_is = ap (λ (s : State Value Definition). s.id) is ∙ kept.id_is;
         clock =
             ap (λ (s : State Value Definition). s.own + length s.left) is
-            ∙ (let len = length-append (history_of rows id) (coming old.state.by changes) in
+            ∙ (let len = length-append (history_of rows id) (coming old.state.definition changes) in
             let own = own_is in
-            let count : old.state.own + length (coming old.state.by changes) ≡ length (history_of rows id ++ coming old.state.by changes) = omega (arith, len, own) in
+            let count : old.state.own + length (coming old.state.definition changes) ≡ length (history_of rows id ++ coming old.state.definition changes) = omega (arith, len, own) in
             count)
             ∙ ap (λ (ds : List Definition). length ds) (sym history_is);
         last =
-            ap (λ (s : State Value Definition). last_of s.by s.left) is
-            ∙ ap (λ o. last_of o (coming old.state.by changes)) by_is
-            ∙ sym (present-more (history_of rows id) (coming old.state.by changes))
+            ap (λ (s : State Value Definition). last_of s.definition s.left) is
+            ∙ ap (λ o. last_of o (coming old.state.definition changes)) definition_is
+            ∙ sym (present-more (history_of rows id) (coming old.state.definition changes))
             ∙ ap present (sym history_is);
       }
 
-  accepted_after : IsBook after → (d : Definition) → Has (coming old.state.by changes) d → IsDefinitionOf (roster_of after) id d
+  accepted_after : IsBook after → (d : Definition) → Has (coming old.state.definition changes) d → IsDefinitionOf (roster_of after) id d
   accepted_after book d has =
       let P : List Definition → Type 0 = λ ds. Has ds d in
-      (book.each id known_after).definitions d (subst P (sym history_is) (Has-append_right (history_of rows id) (coming old.state.by changes) d has))
+      (book.each id known_after).definitions d (subst P (sym history_is) (Has-append_right (history_of rows id) (coming old.state.definition changes) d has))
 
   clock_after : IsBook after → old.state.own + length changes ≤ 1024000
   clock_after book =
       let within = (book.each id known_after).clock in
-      let len = length-append (history_of rows id) (coming old.state.by changes) in
+      let len = length-append (history_of rows id) (coming old.state.definition changes) in
       let same = ap (λ (ds : List Definition). length ds) history_is in
-      let count = length-coming old.state.by changes in
+      let count = length-coming old.state.definition changes in
       let own = own_is in
       omega (arith, within, len, same, count, own)
 
   -- of the node whose leg was closed before
   module _ (closed : TheService) (is_closed : closed.state ≡ opened_with [] old.state) where
-    pub kept_opened : (new : TheService) → new.state ≡ opened_with (coming closed.state.by changes) closed.state → Keeps id new after
-    kept_opened new is = opened_keeps new (is ∙ ap (λ (s : State Value Definition). opened_with (coming s.by changes) s) is_closed)
+    pub kept_opened : (new : TheService) → new.state ≡ opened_with (coming closed.state.definition changes) closed.state → Keeps id new after
+    kept_opened new is = opened_keeps new (is ∙ ap (λ (s : State Value Definition). opened_with (coming s.definition changes) s) is_closed)
 
-    pub open_accepted : (roster : List Kind) → roster ≡ roster_of after → IsBook after → (d : Definition) → Has (coming closed.state.by changes) d → IsDefinitionOf roster closed.state.id d
+    pub open_accepted : (roster : List Kind) → roster ≡ roster_of after → IsBook after → (d : Definition) → Has (coming closed.state.definition changes) d → IsDefinitionOf roster closed.state.id d
     open_accepted roster roster_is book d has =
         let P : Option Definition → Type 0 = λ o. Has (coming o changes) d in
         let Q : List Kind → Type 0 = λ kinds. IsDefinitionOf kinds closed.state.id d in
         let R : ℕ → Type 0 = λ n. IsDefinitionOf (roster_of after) n d in
         let id_is : id ≡ closed.state.id = sym kept.id_is ∙ ap (λ (s : State Value Definition). s.id) (sym is_closed) in
-        subst Q (sym roster_is) (subst R id_is (accepted_after book d (subst P (ap (λ (s : State Value Definition). s.by) is_closed) has)))
+        subst Q (sym roster_is) (subst R id_is (accepted_after book d (subst P (ap (λ (s : State Value Definition). s.definition) is_closed) has)))
 
     pub open_clock : IsBook after → closed.state.own + length changes ≤ 1024000
     open_clock book = (let own = ap (λ (s : State Value Definition). s.own) is_closed in let most = clock_after book in omega (arith, own, most))

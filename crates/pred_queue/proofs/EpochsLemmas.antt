@@ -1,7 +1,7 @@
 -- The epochs of what waits.
 use Rattle.std.proofs.Common.{◌≡◌, ℕ, ◌≤◌, List, [], ◌∷◌, ◌++◌, Bool, filter, option_to_list, Option, Some, None, refl, sym, subst, inl, inr, arith}
 use Rattle.std.proofs.lemmas.Bool.{cond-true, cond-false, cases_Bool}
-use Rattle.propagation.specs.Words.{Has}
+use Rattle.propagation.specs.Lists.{Has}
 use Rattle.propagation.specs.Logs.{Emission}
 use Rattle.propagation.proofs.Lists.{Has-append_cases}
 use Rattle.service_machine.specs.Fitting.{Climb}

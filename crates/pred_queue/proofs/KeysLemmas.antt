@@ -2,7 +2,7 @@
 use Rattle.std.proofs.Common.{◌≡◌, ℕ, suc, ◌<◌, ◌≤◌, List, [], ◌∷◌, ◌++◌, inl, inr, sym, subst, arith}
 use Rattle.std.specs.Prelude.{All}
 use Rattle.propagation.specs.Stamps.{Rise}
-use Rattle.propagation.specs.Words.{Has}
+use Rattle.propagation.specs.Lists.{Has}
 use Rattle.stamp_clock.proofs.RiseLemmas.{all-has}
 
 rise-least : (least : ℕ) (xs : List ℕ) (key : ℕ) (rest : List ℕ) → Rise least (xs ++ key ∷ rest) → least ≤ key

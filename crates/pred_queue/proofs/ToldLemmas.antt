@@ -5,9 +5,9 @@ use Rattle.std.proofs.lemmas.List.Elements.{All-nil, All-cons, All-head, All-tai
 use Rattle.std.proofs.lemmas.Option.{same_Some, get_or_from_slice_get}
 use Rattle.std.proofs.lemmas.List.{length-replicate, drop_more}
 use Rattle.std.specs.List.{zip}
-use Rattle.propagation.specs.Words.{Has, is_among}
-use Rattle.propagation.specs.Stamps.{Stamps, named, written, IsRising, RisePairs, keys}
-use Rattle.service_machine.specs.States.{known}
+use Rattle.propagation.specs.Lists.{Has, is_among}
+use Rattle.propagation.specs.Stamps.{Stamps, clock_named, with_clocks, IsRising, RisePairs, keys}
+use Rattle.service_machine.specs.States.{known_stamps}
 use Rattle.service_machine.specs.Steps.{IsWhole}
 use Rattle.service_machine.specs.Refusing.{bad_place, refuse_put, refuse_places, refuse_part}
 use Rattle.service_machine.specs.Fitting.{Proper}
@@ -23,20 +23,20 @@ use Rattle.pred_queue.specs.Told.{Told, told_more, rewritten}
 -- the clocks from a place on, with those that the pairs name
 placed : ℕ → List (ℕ × ℕ) → List ℕ → List ℕ
 placed place pairs [] = []
-placed place pairs (c ∷ cs) = unwrap_or (named pairs place) c ∷ placed (suc place) pairs cs
+placed place pairs (c ∷ cs) = unwrap_or (clock_named pairs place) c ∷ placed (suc place) pairs cs
 
-written-placed : (place : ℕ) (pairs : List (ℕ × ℕ)) (ks cs : List ℕ) → written place pairs (zip ks cs) ≡ zip ks (placed place pairs cs)
+written-placed : (place : ℕ) (pairs : List (ℕ × ℕ)) (ks cs : List ℕ) → with_clocks place pairs (zip ks cs) ≡ zip ks (placed place pairs cs)
 unfolding placed
 written-placed place pairs [] cs = refl
 written-placed place pairs (k ∷ ks) [] = refl
-written-placed place pairs (k ∷ ks) (c ∷ cs) = ap (λ (rest : Stamps). (k, unwrap_or (named pairs place) c) ∷ rest) (written-placed (suc place) pairs ks cs)
+written-placed place pairs (k ∷ ks) (c ∷ cs) = ap (λ (rest : Stamps). (k, unwrap_or (clock_named pairs place) c) ∷ rest) (written-placed (suc place) pairs ks cs)
 
 -- nothing is named below the first
-named-below : (least : ℕ) (pairs : List (ℕ × ℕ)) (place : ℕ) → RisePairs least pairs → place < least → named pairs place ≡ None
+named-below : (least : ℕ) (pairs : List (ℕ × ℕ)) (place : ℕ) → RisePairs least pairs → place < least → clock_named pairs place ≡ None
 named-below least [] place r lt = refl
 named-below least (x ∷ rest) place r lt =
     let le : least ≤ x.0 = r.0 in
-    cond-false (x.0 == place) (Some x.1) (named rest place) (ne_eqb x.0 place (λ e. omega arith)) ∙ named-below (suc x.0) rest place r.2 (omega arith)
+    cond-false (x.0 == place) (Some x.1) (clock_named rest place) (ne_eqb x.0 place (λ e. omega arith)) ∙ named-below (suc x.0) rest place r.2 (omega arith)
 
 placed-none : (place : ℕ) (cs : List ℕ) → placed place [] cs ≡ cs
 unfolding placed
@@ -48,7 +48,7 @@ placed-past : (place p c : ℕ) (rest : List (ℕ × ℕ)) (cs : List ℕ) → p
 unfolding placed
 placed-past place p c rest [] lt = refl
 placed-past place p c rest (x ∷ cs) lt =
-    ap₂ (λ (o : Option ℕ) (tail : List ℕ). unwrap_or o x ∷ tail) (cond-false (p == place) (Some c) (named rest place) (ne_eqb p place (λ e. omega arith)))
+    ap₂ (λ (o : Option ℕ) (tail : List ℕ). unwrap_or o x ∷ tail) (cond-false (p == place) (Some c) (clock_named rest place) (ne_eqb p place (λ e. omega arith)))
     (placed-past (suc place) p c rest cs (omega arith))
 
 -- the first that is named is set
@@ -57,10 +57,10 @@ unfolding placed
 placed-first place i p c rest [] at r = refl
 placed-first place zero p c rest (x ∷ cs) at r =
     ap₂ (λ (head : ℕ) (tail : List ℕ). head ∷ tail)
-    (ap (λ o. unwrap_or o x) (cond-true (p == place) (Some c) (named rest place) (eq-eqb p place (omega arith))) ∙ ap (λ o. unwrap_or o c) (sym (named-below (suc p) rest place r (omega arith))))
+    (ap (λ o. unwrap_or o x) (cond-true (p == place) (Some c) (clock_named rest place) (eq-eqb p place (omega arith))) ∙ ap (λ o. unwrap_or o c) (sym (named-below (suc p) rest place r (omega arith))))
     (placed-past (suc place) p c rest cs (omega arith))
 placed-first place (suc i) p c rest (x ∷ cs) at r =
-    ap₂ (λ (o : Option ℕ) (tail : List ℕ). unwrap_or o x ∷ tail) (cond-false (p == place) (Some c) (named rest place) (ne_eqb p place (λ e. omega arith)))
+    ap₂ (λ (o : Option ℕ) (tail : List ℕ). unwrap_or o x ∷ tail) (cond-false (p == place) (Some c) (clock_named rest place) (ne_eqb p place (λ e. omega arith)))
     (placed-first (suc place) i p c rest cs (omega arith) r)
 
 placed-rewritten : (least : ℕ) (pairs : List (ℕ × ℕ)) (cs : List ℕ) → RisePairs least pairs → placed 0 pairs cs ≡ rewritten pairs cs
@@ -68,11 +68,11 @@ placed-rewritten least [] cs r = placed-none 0 cs
 placed-rewritten least (x ∷ rest) cs r = placed-first 0 x.0 x.0 x.1 rest cs (omega arith) r.2 ∙ placed-rewritten (suc x.0) rest (set cs x.0 x.1) r.2
 
 -- stamps with named clocks are the keys beside the rewritten clocks
-pub written-beside : (pairs : List (ℕ × ℕ)) (ks cs : List ℕ) → RisePairs 0 pairs → written 0 pairs (zip ks cs) ≡ zip ks (rewritten pairs cs)
+pub written-beside : (pairs : List (ℕ × ℕ)) (ks cs : List ℕ) → RisePairs 0 pairs → with_clocks 0 pairs (zip ks cs) ≡ zip ks (rewritten pairs cs)
 written-beside pairs ks cs r = written-placed 0 pairs ks cs ∙ ap (zip ks) (placed-rewritten 0 pairs cs r)
 
 -- where nothing is carried, each clock is 0
-pub none-known : (ks : List ℕ) → known ks None ≡ zip ks (replicate (length ks) 0)
+pub none-known : (ks : List ℕ) → known_stamps ks None ≡ zip ks (replicate (length ks) 0)
 none-known [] = refl
 none-known (k ∷ ks) = ap (λ (rest : Stamps). (k, 0) ∷ rest) (none-known ks)
 
@@ -141,7 +141,7 @@ pub length-start : (ks : List ℕ) (last : Option (List ℕ)) → ((cs : List �
 length-start ks None are = sym (length-replicate (length ks) 0)
 length-start ks (Some cs) are = (are cs refl).lengths
 
-pub start-known : (ks : List ℕ) (last : Option (List ℕ)) → known ks (option_map (zip ks) last) ≡ zip ks (start_of ks last)
+pub start-known : (ks : List ℕ) (last : Option (List ℕ)) → known_stamps ks (option_map (zip ks) last) ≡ zip ks (start_of ks last)
 start-known ks None = none-known ks
 start-known ks (Some cs) = refl
 
@@ -156,7 +156,7 @@ start-beside epoch ks last pairs are before ok r =
       are_keys = are;
       lengths = same;
       positive = rising-positive 0 ks (rewritten pairs (start_of ks last)) same
-          (subst (λ (S : Stamps). IsRising 0 S) (ap (written 0 pairs) (start-known ks last) ∙ written-beside pairs ks (start_of ks last) r) proper.0);
+          (subst (λ (S : Stamps). IsRising 0 S) (ap (with_clocks 0 pairs) (start-known ks last) ∙ written-beside pairs ks (start_of ks last) r) proper.0);
     }
   where
     carried : (o : Option (List ℕ)) → ((cs : List ℕ) → o ≡ Some cs → AreBeside ks cs) → (R : Stamps) → option_map (zip ks) o ≡ Some R → (keys R ≡ ks) × Proper 64 R
@@ -167,8 +167,8 @@ start-beside epoch ks last pairs are before ok r =
         (keys-beside ks cs b.lengths, (rising-beside 0 ks cs b.are_keys.rise b.positive, clock-missing ks cs 64 (λ h. let lt : 64 < 64 = has-all {A = ℕ} (λ k. k < 64) ks b.are_keys.below 64 h in omega arith)))
 
 -- and are the stamps that it makes
-pub start-written : (ks : List ℕ) (last : Option (List ℕ)) (pairs : List (ℕ × ℕ)) → RisePairs 0 pairs → written 0 pairs (known ks (option_map (zip ks) last)) ≡ zip ks (rewritten pairs (start_of ks last))
-start-written ks last pairs r = ap (written 0 pairs) (start-known ks last) ∙ written-beside pairs ks (start_of ks last) r
+pub start-written : (ks : List ℕ) (last : Option (List ℕ)) (pairs : List (ℕ × ℕ)) → RisePairs 0 pairs → with_clocks 0 pairs (known_stamps ks (option_map (zip ks) last)) ≡ zip ks (rewritten pairs (start_of ks last))
+start-written ks last pairs r = ap (with_clocks 0 pairs) (start-known ks last) ∙ written-beside pairs ks (start_of ks last) r
 
 -- each place is one of theirs
 pub places-within : (epoch n : ℕ) (ks : List ℕ) (carried : Option Stamps) (clocks : List PlaceClock) → n ≡ length ks → refuse_put (Some (epoch, ks)) carried epoch (pairs_of clocks) ≡ None → All (λ (one : PlaceClock). one.place < n) clocks

@@ -1,7 +1,7 @@
 -- The epochs of what waits.
 use Rattle.std.specs.Prelude.{ℕ, ◌≤◌, List, Option}
 use Rattle.std.proofs.Common.{Some, None}
-use Rattle.propagation.specs.Words.{Has}
+use Rattle.propagation.specs.Lists.{Has}
 use Rattle.propagation.specs.Logs.{Emission}
 use Rattle.service_machine.specs.Fitting.{Climb}
 

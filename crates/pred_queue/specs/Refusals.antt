@@ -6,7 +6,7 @@ use Rattle.service_machine.specs.Refusing.Refusal.{SlotBack, NoSources as Unanno
 use Rattle.pred_queue.specs.declared.errors.SlotError.{SlotError}
 use Rattle.pred_queue.specs.declared.errors.SlotError.TheVariants.{EpochBack, NoSources, WrongPlace, NotWhole, OutOfMemory}
 
--- want of memory refuses nothing
+-- out of memory refuses nothing
 abbrev pub refusal_of : SlotError → Option Refusal
 refusal_of (EpochBack had) = Some (SlotBack had)
 refusal_of NoSources = Some Unannounced

@@ -3,8 +3,8 @@ use Rattle.std.specs.Prelude.{ℕ, List, [], ◌∷◌, Option, Vec, option_map,
 use Rattle.std.proofs.Common.{Some, None}
 use Rattle.std.specs.declared.alloc.Global.{Global}
 use Rattle.svc_value.specs.declared.numbers.Clock.{Clock}
-use Rattle.propagation.specs.Stamps.{Stamps, written}
-use Rattle.service_machine.specs.States.{known}
+use Rattle.propagation.specs.Stamps.{Stamps, with_clocks}
+use Rattle.service_machine.specs.States.{known_stamps}
 
 -- the epoch and the keys announced last, and the stamps last carried since then
 pub record Told : Type 0 where
@@ -14,7 +14,7 @@ pub record Told : Type 0 where
 
 -- a value names the clocks of some places
 abbrev pub told_more : List (ℕ × ℕ) → Told → Stamps
-told_more pairs told = written 0 pairs (known told.keys told.carried)
+told_more pairs told = with_clocks 0 pairs (known_stamps told.keys told.carried)
 
 -- the clocks with these at their places, one after the other
 abbrev pub rewritten : List (ℕ × ℕ) → List ℕ → List ℕ

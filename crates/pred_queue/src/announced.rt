@@ -7,7 +7,7 @@ ghost use Rattle.wire_frame.specs.Frames.{pairs};
 ghost use Rattle.pred_queue.specs.Told.{rewritten, items_in};
 
 use crate::SlotError;
-use crate::lent::Lent;
+use crate::clocks_ref::ClocksRef;
 use stamp_clock::{KeySet, Stamps};
 use std::alloc::Global;
 use std::marker::Model;
@@ -67,7 +67,7 @@ impl Announced {
     }
 
     // Why the clocks of a value under an epoch are refused, if they are.
-    pub(crate) fn check<L: Lent>(&self, epoch: Clock, named: &L) -> Result<(), SlotError>
+    pub(crate) fn check<L: ClocksRef>(&self, epoch: Clock, named: &L) -> Result<(), SlotError>
         ensures exactly { refusal_in result ≡ refuse_put (Some (self.now.epoch, self.now.keys)) self.now.carried epoch (pairs (L.named named.now)) }
         ensures memory { IfErr result (λ error. IsSome (refusal_of error)) }
     {
@@ -86,7 +86,11 @@ impl Announced {
     }
 
     // The clocks are those last carried.
-    pub(crate) fn carry<L: Lent>(&mut self, alloc: Global, named: &L) -> Result<(), OutOfMemory>
+    pub(crate) fn carry<L: ClocksRef>(
+        &mut self,
+        alloc: Global,
+        named: &L,
+    ) -> Result<(), OutOfMemory>
         requires accepted { refuse_put (Some (self.old.epoch, self.old.keys)) self.old.carried self.old.epoch (pairs (L.named named.now)) ≡ None }
         requires rise { RisePairs 0 (pairs (L.named named.now)) }
         ensures ok { OnOk result (self.new ≡ record self.old { carried = Some (told_more (pairs (L.named named.now)) self.old) }) }
@@ -94,7 +98,7 @@ impl Announced {
     {
         let last = self.clocks.take();
         let clocks = or_zeros(alloc, last, self.keys.len())?;
-        self.clocks = Some(written(clocks, named));
+        self.clocks = Some(with_clocks(clocks, named));
         Ok(())
     }
 
@@ -131,7 +135,7 @@ impl Announced {
 }
 
 // The first place that is none of so many.
-fn first_outside<L: Lent>(count: usize, named: &L) -> Option<usize>
+fn first_outside<L: ClocksRef>(count: usize, named: &L) -> Option<usize>
     ensures { result ≡ bad_place count (pairs (L.named named.now)) }
 {
     for i in 0..named.count() {
@@ -169,7 +173,7 @@ fn or_zeros(
 }
 
 // The clocks with those at the named places in place of the ones before.
-fn written<L: Lent>(mut clocks: Vec<Clock>, named: &L) -> Vec<Clock>
+fn with_clocks<L: ClocksRef>(mut clocks: Vec<Clock>, named: &L) -> Vec<Clock>
     requires { All (λ named. named.place < length clocks.items) (L.named named.now) }
     ensures { result.items ≡ rewritten (pairs (L.named named.now)) clocks.items }
 {

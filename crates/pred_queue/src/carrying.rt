@@ -7,8 +7,8 @@ ghost use Rattle.wire_frame.specs.Frames.{pairs};
 ghost use Rattle.pred_queue.specs.Told.{told_more};
 
 use crate::announced::Announced;
+use crate::clocks_ref::ClocksRef;
 use crate::held::Waiting;
-use crate::lent::Lent;
 use stamp_clock::Stamps;
 use std::alloc::Global;
 use std::collections::VecDeque;
@@ -17,7 +17,7 @@ use svc_value::{Clock, OutOfMemory};
 
 // The stamps of a value, which are carried from now on, with room for it in the queue. They are made in the memory of
 // `spare`. All that can want memory comes first.
-pub(crate) fn next_stamps<L: Lent>(
+pub(crate) fn next_stamps<L: ClocksRef>(
     alloc: Global,
     spare: &mut Vec<Clock>,
     announced: &mut Announced,

@@ -12,7 +12,7 @@ pub enum SlotError {
     WrongPlace { announced: usize, place: usize },
     /// The first value after `announced` keys names the clocks of `carried` places.
     NotWhole { announced: usize, carried: usize },
-    /// Want of memory.
+    /// Out of memory.
     OutOfMemory,
 }
 

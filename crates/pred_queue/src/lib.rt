@@ -4,12 +4,12 @@
 
 mod announced;
 mod carrying;
+mod clocks_ref;
 mod copying;
 mod cutting;
 mod emission;
 mod errors;
 mod held;
-mod lent;
 mod slot;
 
 pub use emission::Emission;

@@ -1,7 +1,7 @@
 // What is kept of one sender.
 ghost use Rattle.std.specs.Prelude.{◌≡◌, ◌<◌, ◌==◌, ◌-◌, ◌+◌, ◌^◌, All, true, false, None, Some, Ok, length, option_copied, OnOk, OnErr, IfOk, IfErr, IsSome, IsTrue, ◌↔◌, []};
 ghost use Rattle.propagation.specs.Stamps.{Rise, RisePairs};
-ghost use Rattle.service_machine.specs.States.{is_live as live, has_next as next_waits, advanced, announced_to, put as put_to, cut as cut_at, number_of, emission_of, empty_slot};
+ghost use Rattle.service_machine.specs.States.{is_live as live, has_next as next_waits, advanced, announced_to, put as put_to, cut as cut_at, number_at_head, emission_of, empty_slot};
 ghost use Rattle.service_machine.specs.Openings.{first_slot};
 ghost use Rattle.service_machine.specs.Fitting.{Climb};
 ghost use Rattle.service_machine.specs.Refusing.{refuse_back, refuse_put};
@@ -12,10 +12,10 @@ ghost use Rattle.pred_queue.specs.Refusals.{refusal_of, refusal_in, refusal_with
 
 use crate::announced::Announced;
 use crate::carrying::next_stamps;
+use crate::clocks_ref::{ClocksRef, set_of};
 use crate::copying::{copied_head, copied_keys, copied_queue};
 use crate::cutting::{cut_queue, first, is_live, live_head};
 use crate::held::{Held, Waiting};
-use crate::lent::{Lent, set_of};
 use crate::{Emission, SlotError};
 use stamp_clock::KeySet;
 use std::alloc::Global;
@@ -24,7 +24,7 @@ use std::marker::Model;
 use std::mem;
 use std::sync::ledger::Ledger;
 use svc_value::{Clock, OutOfMemory, ServiceId, Steps, Value};
-use wire_frame::{KeysIn, PlaceClock, PlacesIn};
+use wire_frame::{KeysRef, PlaceClock, PlacesRef};
 
 /// What became of a value.
 #[derive(Clone, Copy, Debug, PartialEq, Eq)]
@@ -103,7 +103,7 @@ impl Slot {
 
     /// Keys come as to `announce`, and the bytes of a frame lend them. The answers, and what an error leaves, are those of
     /// `announce`.
-    pub fn announce_keys(&mut self, epoch: Clock, keys: KeysIn<'_>) -> Result<(), SlotError>
+    pub fn announce_keys(&mut self, epoch: Clock, keys: KeysRef<'_>) -> Result<(), SlotError>
         requires rise { Rise 0 keys }
         requires below { All (λ key. key < 64) keys }
         ensures exactly { refusal_in result ≡ refuse_back self.old.announced epoch }
@@ -138,7 +138,7 @@ impl Slot {
     /// `Kept` exactly where the epoch is above the own clock or is the edge's, `Dropped` elsewhere. It is refused, in this
     /// order: `NoSources` exactly where no keys are announced under the epoch; `WrongPlace` exactly where a place is not below
     /// the number of announced keys, with the first such place; `NotWhole` exactly where nothing was carried since the
-    /// announcement and the numbers of keys and of clocks differ; `OutOfMemory` for want of memory. A refusal hands the value
+    /// announcement and the numbers of keys and of clocks differ; `OutOfMemory` when memory runs out. A refusal hands the value
     /// back and leaves the slot as it was.
     pub fn put(
         &mut self,
@@ -164,7 +164,7 @@ impl Slot {
         own: Clock,
         epoch: Clock,
         value: Value,
-        clocks: PlacesIn<'_>,
+        clocks: PlacesRef<'_>,
     ) -> Result<Put, (SlotError, Value)>
         requires { RisePairs 0 (pairs clocks) }
         ensures exactly { refusal_with result ≡ refuse_put self.old.announced self.old.carried epoch (pairs clocks.entry) }
@@ -177,7 +177,7 @@ impl Slot {
     }
 
     // The same, however the clocks are lent.
-    fn put_lent<L: Lent>(
+    fn put_lent<L: ClocksRef>(
         &mut self,
         own: Clock,
         epoch: Clock,
@@ -237,7 +237,7 @@ impl Slot {
     /// number is the head's before and one more, or 1 after none; at the greatest u64 it stays. No memory is taken.
     pub fn advance<M: Ledger>(&mut self, moves: &mut Steps<M>)
         requires { next_waits self.old ≡ true }
-        ensures advanced { number_of self.old.head < 2 ^ 64 - 1 → self.new ≡ advanced self.old }
+        ensures advanced { number_at_head self.old.head < 2 ^ 64 - 1 → self.new ≡ advanced self.old }
         ensures capped { self.new ≡ capped (advanced self.old) }
         ensures moves { moves.new ≡ moves.old + 1 }
     {
@@ -279,7 +279,7 @@ impl Slot {
     /// The number of the head among the values that came in the leg under the edge's epoch, from 1 on. It is 0 for the one
     /// held when the leg began, and where there is no head.
     pub fn number(&self) -> u64
-        ensures { result ≡ number_of self.now.head }
+        ensures { result ≡ number_at_head self.now.head }
     {
         match &self.head {
             None => 0,

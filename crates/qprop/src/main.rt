@@ -7,7 +7,7 @@ use std::io::{self, ErrorKind};
 use std::process::ExitCode;
 use svc_value::{StdSink, StdSource};
 
-/// The exit status where the words of the process can't be had for another cause than want of memory, as a word that is not
+/// The exit status where the words of the process can't be had for another cause than memory, as a word that is not
 /// UTF-8.
 const NO_WORDS: u8 = 10;
 

@@ -1,4 +1,4 @@
--- What is accepted is not refused, so nothing but a fault or want of memory stops a call.
+-- What is accepted is not refused, so nothing but a fault or running out of memory stops a call.
 use Rattle.std.proofs.Common.{◌≡◌, ◌∙◌, sym, ap, subst, ℕ, ◌+◌, ◌≤◌, ◌⊎◌, inl, inr, arith, List, [], ◌++◌, length, length-append, append-nil, Option, None, Some, refl}
 use Rattle.std.specs.Io.KnownBytes.{IsAtEnd}
 use Rattle.command_words.specs.declared.command.Command.{Command}

@@ -1,7 +1,7 @@
 -- What was added is a beginning of the text due, and at the end all of it.
 use Rattle.std.specs.Io.KnownBytes.{Appends}
 use Rattle.std.proofs.Common.{sym, subst, ℕ, ◌≤◌, inl, inr, arith, List, length, Option, None, Some}
-use Rattle.settle_core.specs.Net.{Net}
+use Rattle.settle_core.specs.Net.{NetworkView}
 use Rattle.svc_plan.specs.declared.plan.Leg.{Leg}
 use Rattle.svc_plan.specs.declared.plan.Mode.{Mode}
 use Rattle.svc_plan.specs.declared.plan.Mode.TheVariants as mode
@@ -86,7 +86,7 @@ module _ (left_old left_new held_old held_new : Option (List ℕ)) where
   check_output read legs whole accepted gained =
       record { read = read; whole = whole_read read accepted.1.short whole; legs = legs; accepted = accepted; gained = gained }
 
-  pub settled_output : (read : List ℕ) (legs : List Leg) (network : Net) → ReadsUpTo 1048576 left_old left_new read → HasLegs mode.Step read legs →
+  pub settled_output : (read : List ℕ) (legs : List Leg) (network : NetworkView) → ReadsUpTo 1048576 left_old left_new read → HasLegs mode.Step read legs →
       AddsSettled held_old held_new legs → HasDone legs network → SettledOutput left_old left_new held_old held_new (Some network)
   settled_output read legs network whole accepted run done =
       record {

@@ -6,7 +6,7 @@ use Rattle.std.proofs.lemmas.List.{length-map}
 use Rattle.std.proofs.lemmas.List.Elements.{All-append, All-cons, All-nil}
 use Rattle.settle_core.specs.Events.{AreDeclared}
 use Rattle.svc_graph.specs.History.{Row}
-use Rattle.svc_graph.proofs.Apart.{or_left, or_right}
+use Rattle.svc_graph.proofs.AreDistinct.{or_left, or_right}
 use Rattle.svc_plan.specs.declared.plan.Leg.{Leg}
 use Rattle.svc_plan.specs.declared.plan.Mode.{Mode}
 use Rattle.svc_plan.specs.declared.plan.ServiceLine.{ServiceLine}
@@ -19,7 +19,7 @@ use Rattle.document_reading.specs.declared.statement.Statement.{Statement}
 use Rattle.document_reading.specs.declared.statement.Statement.TheVariants.{Silence, Settle, Do, Take, Turn}
 use Rattle.document_reading.specs.Document.{Reads, ends, line, HasLegs}
 use Rattle.document_reading.specs.Refusals.{is_unknown, names_in}
-use Rattle.document_reading.specs.State.{State, start, next, said, declares, changes, steps}
+use Rattle.document_reading.specs.State.{State, start, next, leg_said, declares, changes, steps}
 use Rattle.document_reading.proofs.FitLemmas.{fits_of}
 use Rattle.document_reading.proofs.NumberLemmas.{named}
 use Rattle.qprop_cli.specs.Stepping.{ordered, AreNamed, EachNamed}
@@ -71,7 +71,7 @@ record Names (rows : List Row) (s : State) : Type 0 where
   here : AreNamed (length s.rows) s.open_leg.steps
 
 with_said : (rows : List Row) (s last : State) (statement : Statement) → Names rows s → list_any (is_unknown s.rows) (names_in statement) ≡ false
-    → last ≡ record s { lines = s.lines + 1; rows = with_changes (with_services s.rows (declares statement)) (changes s.rows statement); open_leg = said s statement; is_open = true }
+    → last ≡ record s { lines = s.lines + 1; rows = with_changes (with_services s.rows (declares statement)) (changes s.rows statement); open_leg = leg_said s statement; is_open = true }
     → Names rows last
 with_said rows s last statement n known is =
     let P : State → Type 0 = λ t. Names rows t in

@@ -6,7 +6,7 @@ use Rattle.std.proofs.KnownBytes.{Appends-nil, Appends-trans, Appends-kept}
 use Rattle.std.specs.Io.KnownBytes.{Keeps}
 use Rattle.propagation.specs.History.{Central}
 use Rattle.settle_core.specs.Quiet.{is_quiet}
-use Rattle.settle_core.specs.Net.{Net}
+use Rattle.settle_core.specs.Net.{NetworkView}
 use Rattle.svc_graph.specs.Central.{AreCentral}
 use Rattle.svc_graph.specs.History.{Row}
 use Rattle.svc_plan.specs.declared.plan.Leg.{Leg}
@@ -29,9 +29,9 @@ on_answer (Err error) P p = tt
 
 -- ---- no leg
 
-pub done_none : (network : Net) → network ≡ record { rows = []; services = []; links = [] } → HasDone [] network
+pub done_none : (network : NetworkView) → network ≡ record { rows = []; services = []; links = [] } → HasDone [] network
 done_none network new =
-    subst (λ (n : Net). HasDone [] n) (sym new) (record {
+    subst (λ (n : NetworkView). HasDone [] n) (sym new) (record {
       histories = refl;
       quiet = refl;
       holds = record { values = []; held = refl; central = Central.none };
@@ -61,7 +61,7 @@ module _ (legs : List Leg) (i : ℕ) (leg : Leg) (rows : List Row) (there : i < 
       let Q : List Row → Type 0 = λ r. AreNamed (length (rows_after r leg)) leg.steps in
       subst Q (sym before) (subst P (sym next) (named_at [] legs i leg there each))
 
-  pub done_more : (new : Net) → new.rows ≡ rows_after rows leg → is_quiet new ≡ true → HoldsCentral new → HasRun rows leg new → HasDone (take (i + 1) legs) new
+  pub done_more : (new : NetworkView) → new.rows ≡ rows_after rows leg → is_quiet new ≡ true → HoldsCentral new → HasRun rows leg new → HasDone (take (i + 1) legs) new
   done_more new histories quiet holds ran =
       let P : List Row → Type 0 = λ r. HasRun r leg new in
       let Q : List Leg → Type 0 = λ ls. EndsWith ls new in

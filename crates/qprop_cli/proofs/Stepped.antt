@@ -11,7 +11,7 @@ use Rattle.settle_core.specs.Quiet.{is_quiet}
 use Rattle.settle_core.specs.Running.{Goes}
 use Rattle.settle_core.specs.Events.{event_of}
 use Rattle.settle_core.specs.Legs.{IsNetwork, IsNoted}
-use Rattle.settle_core.specs.Net.{Net, unborn, service_at, start_of, rank_at}
+use Rattle.settle_core.specs.Net.{NetworkView, unborn, service_at, start_of, rank_at}
 use Rattle.settle_core.specs.Opening.{Opened, changes_of}
 use Rattle.settle_core.proofs.LegLemmas.{none_past}
 use Rattle.settle_core.proofs.NotedLemmas.{notes_go_on}
@@ -21,7 +21,7 @@ use Rattle.settle_core.proofs.StayLemmas.{notes_stay}
 use Rattle.svc_graph.specs.declared.definition.Definition.{Definition}
 use Rattle.svc_graph.specs.History.{Row, declared_row, history_of, present}
 use Rattle.node_core.specs.Coming.{coming}
-use Rattle.node_core.specs.View.{Service}
+use Rattle.node_core.specs.View.{NodeView}
 use Rattle.svc_plan.specs.declared.plan.Leg.{Leg}
 use Rattle.svc_plan.specs.declared.plan.StepEvent.{StepEvent}
 use Rattle.svc_plan.specs.declared.plan.StepEvent.TheVariants.{Do, Take, Turn}
@@ -39,7 +39,7 @@ same_step (Do n) = refl
 same_step (Take n p) = refl
 same_step (Turn n) = refl
 
-pub stepped_none : (net : Net) → IsNoted net [] → HasStepped [] net net
+pub stepped_none : (net : NetworkView) → IsNoted net [] → HasStepped [] net net
 stepped_none net noted = record { rows = refl; start = λ n. refl; lines = []; lines_are = refl; noted = noted }
 
 reversed_more : (steps : List StepLine) (i : ℕ) (step : StepLine) → i < length steps → step ≡ slice_index_or steps i step →
@@ -49,7 +49,7 @@ reversed_more steps i step less at =
     let more : take (i + 1) steps ≡ take i steps ++ step ∷ [] = take_more steps i step less ∙ ap (λ (x : StepLine). take i steps ++ x ∷ []) (sym at) in
     sym (ap (λ (xs : List StepLine). reverse (map f xs)) more ∙ ap (λ (xs : List Step). reverse xs) (map-append f (take i steps) (step ∷ [])) ∙ reverse-append (map f (take i steps)) (f step ∷ []))
 
-pub stepped_next : (steps : List StepLine) (i : ℕ) (step : StepLine) (first old new : Net) → i < length steps → step ≡ slice_index_or steps i step →
+pub stepped_next : (steps : List StepLine) (i : ℕ) (step : StepLine) (first old new : NetworkView) → i < length steps → step ≡ slice_index_or steps i step →
     HasStepped (take i steps) first old → new.rows ≡ old.rows → Makes step.event old new → HasStepped (take (i + 1) steps) first new
 stepped_next steps i step first old new less at so_far rows makes =
     let was = so_far.noted.has in
@@ -65,22 +65,22 @@ stepped_next steps i step first old new less at so_far rows makes =
 -- ---- the leg that was run
 
 -- a leg begins at the end of the histories before it
-pub opened_start : (old new : Net) (leg : Leg) → IsLegAfter old.rows leg → Opened leg old new → (n : ℕ) → start_of new n ≡ length (history_of old.rows n)
+pub opened_start : (old new : NetworkView) (leg : Leg) → IsLegAfter old.rows leg → Opened leg old new → (n : ℕ) → start_of new n ≡ length (history_of old.rows n)
 opened_start old new leg after opens n =
     let history : history_of new.rows n ≡ history_of old.rows n ++ coming (present (history_of old.rows n)) (changes_of n leg.changes) = ap (λ (rs : List Row). history_of rs n) opens.rows ∙ history_after old.rows leg n after in
     let coming_count : length (coming (present (history_of old.rows n)) (changes_of n leg.changes)) ≡ length (changes_of n leg.changes) = length_coming (present (history_of old.rows n)) (changes_of n leg.changes) in
     let whole : length (history_of new.rows n) ≡ length (history_of old.rows n) + length (coming (present (history_of old.rows n)) (changes_of n leg.changes)) =
     ap (λ (ds : List Definition). length ds) history ∙ length-append (history_of old.rows n) (coming (present (history_of old.rows n)) (changes_of n leg.changes)) in
     elim (cases_Bool (ltb n (length new.services))) [
-      | inl t ↦ (let own : length (service_at new.services n).changes ≡ length (changes_of n leg.changes) = ap (λ (s : Service). length s.changes) (opens.each n (ltb-true n (length new.services) t)) in omega arith)
+      | inl t ↦ (let own : length (service_at new.services n).changes ≡ length (changes_of n leg.changes) = ap (λ (s : NodeView). length s.changes) (opens.each n (ltb-true n (length new.services) t)) in omega arith)
       | inr f ↦ (let past : length new.services ≤ n = ltb-false n (length new.services) f in
-          let own : length (service_at new.services n).changes ≡ 0 = ap (λ (s : Service). length s.changes) (get_or_past new.services n (unborn n) past) in
+          let own : length (service_at new.services n).changes ≡ 0 = ap (λ (s : NodeView). length s.changes) (get_or_past new.services n (unborn n) past) in
           let count : length new.services ≡ length new.rows = opens.count in
           let none : length (history_of new.rows n) ≡ 0 = ap (λ (row : Row). length row.history) (get_or_past new.rows n (declared_row [] 0 Int) (omega arith)) in omega arith)
     ]
 
 -- the step lines and a drain have run the leg
-pub leg_run : (old opened stepped new : Net) (leg : Leg) → IsLegAfter old.rows leg → Opened leg old opened → HasStepped leg.steps opened stepped → IsNetwork stepped → Goes stepped new → IsNetwork new → is_quiet new ≡ true →
+pub leg_run : (old opened stepped new : NetworkView) (leg : Leg) → IsLegAfter old.rows leg → Opened leg old opened → HasStepped leg.steps opened stepped → IsNetwork stepped → Goes stepped new → IsNetwork new → is_quiet new ≡ true →
     HasRun old.rows leg new
 leg_run old opened stepped new leg after opens steps before goes network quiet =
     let was = steps.noted.has in

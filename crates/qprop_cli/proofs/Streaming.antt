@@ -5,7 +5,7 @@ use Rattle.document_reading.specs.declared.refusal.Refusal.{Refusal}
 use Rattle.wire_frame.specs.declared.frame.Frame.{Frame}
 use Rattle.wire_frame.specs.declared.reason.FrameReason.{FrameReason}
 use Rattle.wire_frame.specs.Frames.{FrameOf}
-use Rattle.wire_frame.specs.Stream.{framed, size_at, IsTooLong}
+use Rattle.wire_frame.specs.Stream.{framed_item, size_at, IsTooLong}
 use Rattle.wire_frame.specs.Taking.{IsFrame, IsAtFront, IsBadFrame}
 use Rattle.wire_frame.proofs.Items.{size_framed}
 use Rattle.wire_frame.proofs.Longest.{frame_length}
@@ -39,23 +39,23 @@ no_long bytes long b =
     omega (arith, long.1, front_size bytes b, ap length b.frame_of.is, frame_length b.frame (b.frame_of.within, b.frame_of.fits))
 
 -- one item stands in front
-same_item : (a b x y : List ℕ) → framed a ++ x ≡ framed b ++ y → a ≡ b
+same_item : (a b x y : List ℕ) → framed_item a ++ x ≡ framed_item b ++ y → a ≡ b
 same_item a b x y e =
     let size : length a ≡ length b = sym (size_framed a x) ∙ ap size_at e ∙ size_framed b y in
     sym (take_at a x (length a) refl) ∙ ap (λ bytes. take (length a) (drop 2 bytes)) e ∙ take_at b y (length a) (sym size)
 
 -- an item that is no frame
-pub no_item : (bytes item rest : List ℕ) → bytes ≡ framed item ++ rest → (IsFrame item → ⊥) → BeginsWithFrame bytes → ⊥
+pub no_item : (bytes item rest : List ℕ) → bytes ≡ framed_item item ++ rest → (IsFrame item → ⊥) → BeginsWithFrame bytes → ⊥
 no_item bytes item rest whole none b =
     none (b.frame, subst (FrameOf b.frame) (same_item b.own item b.behind rest (sym b.whole ∙ whole)) b.frame_of)
 
 -- ---- one frame more
 
 -- one frame more behind a stream
-stream_more : {front : List ℕ} {frames : List Frame} (own : List ℕ) (frame : Frame) → IsStream front frames → FrameOf frame own → IsStream (front ++ framed own) (frames ++ frame ∷ [])
-stream_more own frame IsStream.ends is = subst (λ bytes. IsStream bytes (frame ∷ [])) (append-nil (framed own)) (IsStream.goes_on is IsStream.ends)
+stream_more : {front : List ℕ} {frames : List Frame} (own : List ℕ) (frame : Frame) → IsStream front frames → FrameOf frame own → IsStream (front ++ framed_item own) (frames ++ frame ∷ [])
+stream_more own frame IsStream.ends is = subst (λ bytes. IsStream bytes (frame ∷ [])) (append-nil (framed_item own)) (IsStream.goes_on is IsStream.ends)
 stream_more own frame (IsStream.goes_on {own = first_own} {rest = rest} {frame = first} {frames = frames} first_is later) is =
-    subst (λ bytes. IsStream bytes (first ∷ (frames ++ frame ∷ []))) (sym (append_assoc (framed first_own) rest (framed own)))
+    subst (λ bytes. IsStream bytes (first ∷ (frames ++ frame ∷ []))) (sym (append_assoc (framed_item first_own) rest (framed_item own)))
     (IsStream.goes_on first_is (stream_more own frame later is))
 
 -- so far the bytes are a stream of frames, with their lines, and what is left; the next frame has this number
@@ -74,9 +74,9 @@ pub read_more : (bytes text left new_text new_left : List ℕ) (number size : �
     IsReadSoFar bytes new_text new_left (number + 1)
 read_more bytes text left new_text new_left number size so_far next =
     record {
-      front = so_far.front ++ framed next.own;
+      front = so_far.front ++ framed_item next.own;
       frames = so_far.frames ++ next.frame ∷ [];
-      whole = so_far.whole ∙ ap (λ rest. so_far.front ++ rest) next.whole ∙ sym (append_assoc so_far.front (framed next.own) new_left);
+      whole = so_far.whole ∙ ap (λ rest. so_far.front ++ rest) next.whole ∙ sym (append_assoc so_far.front (framed_item next.own) new_left);
       stream = stream_more next.own next.frame so_far.stream next.frame_of;
       lines = next.line ∙ ap (λ t. t ++ frame_line next.frame) so_far.lines ∙ flat_map_more frame_line [] so_far.frames next.frame;
       number_is = omega (arith, so_far.number_is, length-append so_far.frames (next.frame ∷ []));
@@ -96,13 +96,13 @@ nothing_begins b = omega (arith, front_length [] b)
 one_reading : {a b : List ℕ} {f g : List Frame} (x y : List ℕ) → IsStream a f → IsStream b g → a ++ x ≡ b ++ y → (BeginsWithFrame x → ⊥) → (BeginsWithFrame y → ⊥) → (f ≡ g) × (x ≡ y)
 one_reading x y IsStream.ends IsStream.ends e stuck other = (refl, e)
 one_reading x y IsStream.ends (IsStream.goes_on {own = own} {rest = rest} {frame = frame} is later) e stuck other =
-    absurd (stuck (record { frame = frame; own = own; behind = rest ++ y; frame_of = is; whole = e ∙ append_assoc (framed own) rest y }))
+    absurd (stuck (record { frame = frame; own = own; behind = rest ++ y; frame_of = is; whole = e ∙ append_assoc (framed_item own) rest y }))
 one_reading x y (IsStream.goes_on {own = own} {rest = rest} {frame = frame} is later) IsStream.ends e stuck other =
-    absurd (other (record { frame = frame; own = own; behind = rest ++ x; frame_of = is; whole = sym e ∙ append_assoc (framed own) rest x }))
+    absurd (other (record { frame = frame; own = own; behind = rest ++ x; frame_of = is; whole = sym e ∙ append_assoc (framed_item own) rest x }))
 one_reading x y (IsStream.goes_on {own = a} {rest = ra} {frame = f} {frames = fs} f_is f_later) (IsStream.goes_on {own = b} {rest = rb} {frame = g} {frames = gs} g_is g_later) e stuck other =
-    let spelled : framed a ++ (ra ++ x) ≡ framed b ++ (rb ++ y) = sym (append_assoc (framed a) ra x) ∙ e ∙ append_assoc (framed b) rb y in
+    let spelled : framed_item a ++ (ra ++ x) ≡ framed_item b ++ (rb ++ y) = sym (append_assoc (framed_item a) ra x) ∙ e ∙ append_assoc (framed_item b) rb y in
     let own : a ≡ b = same_item a b (ra ++ x) (rb ++ y) spelled in
-    let behind : ra ++ x ≡ rb ++ y = append_cancel_left (framed b) (ra ++ x) (rb ++ y) (ap (λ o. framed o ++ (ra ++ x)) (sym own) ∙ spelled) in
+    let behind : ra ++ x ≡ rb ++ y = append_cancel_left (framed_item b) (ra ++ x) (rb ++ y) (ap (λ o. framed_item o ++ (ra ++ x)) (sym own) ∙ spelled) in
     let first : f ≡ g = (same_frame f g b b [] [] (subst (FrameOf f) own f_is) g_is refl).0 in
     let more = one_reading x y f_later g_later behind stuck other in
     (λ i. first i ∷ more.0 i, more.1)

@@ -4,13 +4,13 @@ use Rattle.document_reading.specs.declared.refusal.Code.TheVariants.{E01, E20}
 use Rattle.document_reading.specs.declared.refusal.Refusal.{Refusal}
 use Rattle.wire_frame.specs.declared.frame.Frame.{Frame}
 use Rattle.wire_frame.specs.Frames.{FrameOf}
-use Rattle.wire_frame.specs.Stream.{framed}
+use Rattle.wire_frame.specs.Stream.{framed_item}
 use Rattle.qprop_cli.specs.FrameText.{frame_line}
 
 -- the bytes are those of these frames, each after its length
 pub data IsStream : List ℕ → List Frame → Type 0 where
   ends : IsStream [] []
-  goes_on : {own rest : List ℕ} {frame : Frame} {frames : List Frame} → FrameOf frame own → IsStream rest frames → IsStream (framed own ++ rest) (frame ∷ frames)
+  goes_on : {own rest : List ℕ} {frame : Frame} {frames : List Frame} → FrameOf frame own → IsStream rest frames → IsStream (framed_item own ++ rest) (frame ∷ frames)
 
 -- the bytes are a stream of these frames, and no more than a stream may have
 pub record HasFrames (bytes : List ℕ) (frames : List Frame) : Type 0 where
@@ -28,7 +28,7 @@ pub record AddsLine (size : ℕ) (bytes rest old_text new_text : List ℕ) : Typ
   pub frame : Frame
   pub own : List ℕ
   pub frame_of : FrameOf frame own
-  pub whole : bytes ≡ framed own ++ rest
+  pub whole : bytes ≡ framed_item own ++ rest
   pub size_is : size ≡ length own + 2
   pub line : new_text ≡ old_text ++ frame_line frame
 
@@ -38,7 +38,7 @@ pub record BeginsWithFrame (bytes : List ℕ) : Type 0 where
   pub own : List ℕ
   pub behind : List ℕ
   pub frame_of : FrameOf frame own
-  pub whole : bytes ≡ framed own ++ behind
+  pub whole : bytes ≡ framed_item own ++ behind
 
 -- the frame with this number, from 1, is the first wrong one: what stands before it is a stream of frames, and something follows that begins with none
 pub record IsFirstWrong (bytes : List ℕ) (number : ℕ) : Type 0 where

@@ -1,7 +1,7 @@
 -- What a call has read and written when it ends.
 use Rattle.std.specs.Prelude.{ℕ, List, [], ◌++◌, Option, None, Some, IfSome}
 use Rattle.std.specs.Io.KnownBytes.{Appends}
-use Rattle.settle_core.specs.Net.{Net}
+use Rattle.settle_core.specs.Net.{NetworkView}
 use Rattle.svc_plan.specs.declared.plan.Leg.{Leg}
 use Rattle.svc_plan.specs.declared.plan.Mode.{Mode}
 use Rattle.svc_plan.specs.declared.plan.Mode.TheVariants as mode
@@ -22,7 +22,7 @@ use Rattle.command_words.specs.Words.{usage_line}
 
 -- the source was read to its end, what it gave is a document with these legs, what was added is their settled text, and the network has
 -- done them
-pub record SettledOutput (left_old left_new held_old held_new : Option (List ℕ)) (network : Option Net) : Type 0 where
+pub record SettledOutput (left_old left_new held_old held_new : Option (List ℕ)) (network : Option NetworkView) : Type 0 where
   pub read : List ℕ
   pub whole : ReadsWhole left_old left_new read
   pub legs : List Leg

@@ -3,7 +3,7 @@ use Rattle.std.specs.Prelude.{ℕ, pos, List, ◌++◌, codes}
 use Rattle.document_reading.specs.declared.refusal.Code.{Code}
 use Rattle.document_reading.specs.declared.refusal.Code.TheVariants.{E01, E02, E03, E04, E05, E06, E07, E08, E09, E10, E11, E12, E13, E14, E15, E16, E17, E18, E19, E20, E21}
 use Rattle.document_reading.specs.declared.refusal.Refusal.{Refusal}
-use Rattle.svc_value.specs.Printed.{printed}
+use Rattle.svc_value.specs.Printed.{printed_value}
 use Rattle.svc_value.specs.declared.value.Value.TheVariants.{Int}
 
 -- the name of a code
@@ -32,4 +32,4 @@ code_text E21 = codes "E21"
 
 -- `refused`, the line and the code
 abbrev pub refusal_line : Refusal → List ℕ
-refusal_line refusal = codes "refused " ++ printed (Int (pos refusal.line)) ++ codes " " ++ code_text refusal.code ++ codes "\n"
+refusal_line refusal = codes "refused " ++ printed_value (Int (pos refusal.line)) ++ codes " " ++ code_text refusal.code ++ codes "\n"

@@ -2,15 +2,15 @@
 use Rattle.std.specs.Prelude.{◌≡◌, ℕ, suc, ◌≤◌, true, List, [], ◌∷◌, ◌++◌, map, length, reverse, Option, Some}
 use Rattle.std.specs.Io.KnownBytes.{Appends}
 use Rattle.propagation.specs.Laws.{changes, computations, values_under}
-use Rattle.propagation.specs.Logs.{own, sent}
+use Rattle.propagation.specs.Logs.{own, frames_sent}
 use Rattle.propagation.specs.Logs.Entry.{Computed}
 use Rattle.propagation.specs.Notes.{Noted, FollowsNotes}
 use Rattle.propagation.specs.Rules.{Legal, Quiet, Settled, TrueOf}
 use Rattle.propagation.specs.Stamps.{Stamps, clock_of}
-use Rattle.propagation.specs.Words.{Has}
+use Rattle.propagation.specs.Lists.{Has}
 use Rattle.settle_core.specs.Quiet.{is_quiet}
 use Rattle.settle_core.specs.Legs.{HasLeg}
-use Rattle.settle_core.specs.Net.{Net}
+use Rattle.settle_core.specs.Net.{NetworkView}
 use Rattle.settle_core.specs.Values.{value_of}
 use Rattle.svc_graph.specs.Central.{AreCentral}
 use Rattle.svc_graph.specs.History.{Row, history_of}
@@ -61,7 +61,7 @@ pub record AddsBlocks (held_old held_new : Option (List ℕ)) (legs : List Leg) 
 -- ---- the network
 
 -- the last value of each service is the central evaluation of the present definitions
-pub record HoldsCentral (network : Net) : Type 0 where
+pub record HoldsCentral (network : NetworkView) : Type 0 where
   pub values : List Value
   pub held : map Some values ≡ map value_of network.services
   pub central : AreCentral network.rows values
@@ -69,13 +69,13 @@ pub record HoldsCentral (network : Net) : Type 0 where
 -- The logs of the nodes are a legal family of the leg that began after these rows. Each value that a service computed is the central
 -- evaluation of exactly the changes that its stamps name, and was computed for one of the leg's changes. The family follows the leg's
 -- step lines with these notes, and nothing is in flight or left to do: the state is the opening of the next leg.
-pub record HasRun (before : List Row) (leg : Leg) (network : Net) : Type 0 where
+pub record HasRun (before : List Row) (leg : Leg) (network : NetworkView) : Type 0 where
   pub has : HasLeg network
   pub start : (n : ℕ) → has.leg.start n ≡ length (history_of before n)
   pub legal : Legal has.leg has.logs
   pub truth : (n : ℕ) (v : Value) (S : Stamps) (picks : List ℕ) → Has (has.logs n) (Computed v S picks) → TrueOf has.leg.book n (record { value = v; stamps = S }) × ((q : ℕ) → clock_of S q ≤ own has.leg q (has.logs q))
   pub work : (n : ℕ) → computations (has.logs n) ≤ changes has.leg 64
-  pub carried : (p n e : ℕ) → values_under e (sent n (has.logs p)) ≤ suc (changes has.leg 64)
+  pub carried : (p n e : ℕ) → values_under e (frames_sent n (has.logs p)) ≤ suc (changes has.leg 64)
   pub lines : Noted
   pub lines_are : map (λ line. line.0) lines ≡ reverse (map (λ step. as_step step.event) leg.steps)
   pub follows : FollowsNotes has.leg has.logs lines
@@ -83,13 +83,13 @@ pub record HasRun (before : List Row) (leg : Leg) (network : Net) : Type 0 where
   pub settled : Settled has.leg has.logs
 
 -- of no leg it is the network without services; else it has run the last leg after the rows of those before
-pub data EndsWith : List Leg → Net → Type 0 where
+pub data EndsWith : List Leg → NetworkView → Type 0 where
   no_leg : EndsWith [] (record { rows = []; services = []; links = [] })
-  last_leg : (before : List Leg) (leg : Leg) {network : Net} → HasRun (rows_after_all [] before) leg network → EndsWith (before ++ leg ∷ []) network
+  last_leg : (before : List Leg) (leg : Leg) {network : NetworkView} → HasRun (rows_after_all [] before) leg network → EndsWith (before ++ leg ∷ []) network
 
 -- the network has done these legs: its histories are theirs, nothing is left to do, each last value is central, and its logs are those
 -- of the last leg
-pub record HasDone (legs : List Leg) (network : Net) : Type 0 where
+pub record HasDone (legs : List Leg) (network : NetworkView) : Type 0 where
   pub histories : network.rows ≡ rows_after_all [] legs
   pub quiet : is_quiet network ≡ true
   pub holds : HoldsCentral network

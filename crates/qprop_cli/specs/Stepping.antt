@@ -6,7 +6,7 @@ use Rattle.settle_core.specs.declared.event.Event.{Event}
 use Rattle.settle_core.specs.declared.event.Event.TheVariants as event
 use Rattle.settle_core.specs.Events.{AreDeclared, Happens, event_of}
 use Rattle.settle_core.specs.Legs.{IsNoted}
-use Rattle.settle_core.specs.Net.{Net, start_of}
+use Rattle.settle_core.specs.Net.{NetworkView, start_of}
 use Rattle.svc_graph.specs.History.{Row}
 use Rattle.svc_plan.specs.declared.plan.Leg.{Leg}
 use Rattle.svc_plan.specs.declared.plan.StepEvent.{StepEvent}
@@ -40,12 +40,12 @@ EachNamed rows (leg ∷ legs) = AreNamed (length (rows_after rows leg)) leg.step
 -- ---- what step lines make
 
 -- the event that the line orders happened
-pub record Makes (line : StepEvent) (old new : Net) : Type 0 where
+pub record Makes (line : StepEvent) (old new : NetworkView) : Type 0 where
   pub note : Note
   pub happened : Happens (event_of (ordered line)) note old new
 
 -- just these step lines led from the beginning of the leg to the new network, each with a note
-pub record HasStepped (steps : List StepLine) (old new : Net) : Type 0 where
+pub record HasStepped (steps : List StepLine) (old new : NetworkView) : Type 0 where
   pub rows : new.rows ≡ old.rows
   pub start : (n : ℕ) → start_of new n ≡ start_of old n
   pub lines : Noted

@@ -8,7 +8,7 @@ use crate::answers::refuse;
 use crate::evaluating::evaluate_legs;
 use crate::outcome::ended;
 use crate::reading::{ReadError, read_all};
-use crate::run::Stop;
+use crate::run::LegError;
 use crate::{Command, Outcome, Status};
 use document_reading::{DocError, Refusal, read_document};
 use std::alloc::Global;
@@ -45,7 +45,7 @@ pub(crate) fn central<S: Source, K: Sink>(alloc: Global, source: &mut S, sink: &
     };
     match evaluate_legs(alloc, plan.legs.as_slice(), sink) {
         Ok(()) => ended(Status::Done),
-        Err(Stop::Fault) => ended(Status::WriteFault),
-        Err(Stop::OutOfMemory) => ended(Status::OutOfMemory),
+        Err(LegError::Fault) => ended(Status::WriteFault),
+        Err(LegError::OutOfMemory) => ended(Status::OutOfMemory),
     }
 }

@@ -5,7 +5,7 @@ ghost use Rattle.svc_plan.specs.Rows.{rows_after, EachBorn, IsLegAfter, AreLegsA
 ghost use Rattle.svc_value.specs.Causes.{Rose};
 ghost use Rattle.qprop_cli.specs.Run.{IsBlock, AddsBlock, BeginsBlock, AddsSettled, AddsBlocks};
 
-use crate::run::Stop;
+use crate::run::LegError;
 use crate::writing::write_all;
 use central_eval::central;
 use std::alloc::Global;
@@ -43,7 +43,7 @@ fn write_leg<K: Sink>(
     leg: &Leg,
     text: &mut Vec<u8>,
     sink: &mut K,
-) -> Result<(), Stop>
+) -> Result<(), LegError>
     requires leg { IsLegAfter book.old leg.now }
     requires born { EachBorn book.old }
     ensures rows { OnOk result (book.new ≡ rows_after book.old leg.now) }
@@ -51,7 +51,7 @@ fn write_leg<K: Sink>(
     ensures added { OnOk result (AddsBlock (K.held sink.old) (K.held sink.new) k (rows_after book.old leg.now)) }
     ensures begun { OnErr result ((Keeps (K.held sink.old) (K.held sink.new)) ⊎ BeginsBlock (K.held sink.old) (K.held sink.new) k (rows_after book.old leg.now)) }
     ensures later { K.faults sink.old ≤ K.faults sink.new }
-    ensures fault { IsErrOf result Stop.Fault → Rose (K.faults sink.old) (K.faults sink.new) }
+    ensures fault { IsErrOf result LegError.Fault → Rose (K.faults sink.old) (K.faults sink.new) }
 {
     evaluate_leg(alloc, book, k, leg, text)?;
     write_all(sink, text)?;
@@ -60,13 +60,17 @@ fn write_leg<K: Sink>(
 
 /// Takes the legs, from the first one of a document on, into a book, and writes the block of each after it. What was written
 /// when it stops is a beginning of the blocks of the legs that were taken.
-pub(crate) fn evaluate_legs<K: Sink>(alloc: Global, legs: &[Leg], sink: &mut K) -> Result<(), Stop>
+pub(crate) fn evaluate_legs<K: Sink>(
+    alloc: Global,
+    legs: &[Leg],
+    sink: &mut K,
+) -> Result<(), LegError>
     requires legs { AreLegsAfter [] legs.now }
     requires few { length legs.now ≤ 1000 }
     ensures settled { OnOk result (AddsSettled (K.held sink.old) (K.held sink.new) legs.now) }
     ensures begun { OnErr result (AddsBlocks (K.held sink.old) (K.held sink.new) legs.now) }
     ensures later { K.faults sink.old ≤ K.faults sink.new }
-    ensures fault { IsErrOf result Stop.Fault → Rose (K.faults sink.old) (K.faults sink.new) }
+    ensures fault { IsErrOf result LegError.Fault → Rose (K.faults sink.old) (K.faults sink.new) }
 {
     let mut book = Book::new(alloc);
     let mut text = Vec::new(alloc);

@@ -1,7 +1,7 @@
 // The line of a frame.
 ghost use Rattle.std.specs.Prelude.{◌≡◌, ◌++◌, codes, OnOk};
-ghost use Rattle.qprop_cli.specs.FrameText.{number_text, place_text, listed, places_text, frame_line};
-ghost use Rattle.svc_value.specs.Printed.{printed};
+ghost use Rattle.qprop_cli.specs.FrameText.{number_text, place_text, comma_list, places_text, frame_line};
+ghost use Rattle.svc_value.specs.Printed.{printed_value};
 
 use svc_value::{Clock, OutOfMemory, ServiceId, Value, print_value};
 use wire_frame::{Frame, PlaceClock};
@@ -53,7 +53,7 @@ fn push_number(number: u32, out: &mut Vec<u8>) -> Result<(), OutOfMemory>
 
 /// Appends the texts of `items`, with a comma before each but the first.
 fn push_list<T: Listed>(items: &[T], out: &mut Vec<u8>) -> Result<(), OutOfMemory>
-    ensures { OnOk result (out.new.items ≡ out.old.items ++ listed T.text items.now) }
+    ensures { OnOk result (out.new.items ≡ out.old.items ++ comma_list T.text items.now) }
 {
     let [first, others @ ..] = items else {
         return Ok(());
@@ -87,7 +87,7 @@ fn push_head(word: &[u8], epoch: Clock, out: &mut Vec<u8>) -> Result<(), OutOfMe
 
 /// Appends the value between the epoch and the clocks.
 fn push_value(value: &Value, out: &mut Vec<u8>) -> Result<(), OutOfMemory>
-    ensures { OnOk result (out.new.items ≡ out.old.items ++ (codes " " ++ printed value.now ++ codes " clocks ")) }
+    ensures { OnOk result (out.new.items ≡ out.old.items ++ (codes " " ++ printed_value value.now ++ codes " clocks ")) }
 {
     out.extend_from_slice(b" ")?;
     print_value(value, out)?;

@@ -7,7 +7,7 @@ ghost use Rattle.qprop_cli.specs.Outcome.{FramesOutput, RefusedOutput, AddsDue};
 use crate::answers::refuse;
 use crate::outcome::ended;
 use crate::reading::{ReadError, read_all};
-use crate::stream::{StreamStop, frames_text};
+use crate::stream::{StreamRefusal, frames_text};
 use crate::writing::write_all;
 use crate::{Command, Outcome, Status};
 use document_reading::Refusal;
@@ -38,8 +38,8 @@ pub(crate) fn frames<S: Source, K: Sink>(alloc: Global, source: &mut S, sink: &m
     };
     let text = match frames_text(alloc, &bytes) {
         Ok(text) => text,
-        Err(StreamStop::Refused(refusal)) => return refuse(alloc, refusal, sink),
-        Err(StreamStop::OutOfMemory) => return ended(Status::OutOfMemory),
+        Err(StreamRefusal::Refused(refusal)) => return refuse(alloc, refusal, sink),
+        Err(StreamRefusal::OutOfMemory) => return ended(Status::OutOfMemory),
     };
     match write_all(sink, &text) {
         Ok(()) => ended(Status::Done),

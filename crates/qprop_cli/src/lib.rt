@@ -24,4 +24,4 @@ pub use command_words::{Command, Size, USAGE};
 pub use laws::streams_are_told;
 pub use outcome::{Outcome, Status};
 pub use plain::qprop_plain;
-pub use reading::LONGEST_DOCUMENT;
+pub use reading::MAX_DOCUMENT_LEN;

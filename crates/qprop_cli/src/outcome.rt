@@ -18,7 +18,7 @@ pub enum Status {
     ReadFault,
     /// The sink failed.
     WriteFault,
-    /// Want of memory.
+    /// Out of memory.
     OutOfMemory,
     /// The archive failed.
     KeepFault,

@@ -7,7 +7,7 @@ use std::alloc::{AllocError, Global};
 use svc_value::{Failed, Source};
 
 /// The most bytes that a document or a stream of frames has.
-pub const LONGEST_DOCUMENT: usize = 1_048_576;
+pub const MAX_DOCUMENT_LEN: usize = 1_048_576;
 
 // How many bytes one read asks for.
 const CHUNK: usize = 8192;
@@ -17,7 +17,7 @@ const CHUNK: usize = 8192;
 pub(crate) enum ReadError {
     /// The source failed.
     Fault,
-    /// Want of memory.
+    /// Out of memory.
     OutOfMemory,
 }
 
@@ -44,7 +44,7 @@ impl From<Failed> for ReadError {
 }
 
 /// All that the source has left, or its first 1,048,577 bytes where there are more than may be read. `Fault` only where
-/// the source's count of faults rose; `OutOfMemory` for want of memory. After both, bytes that were read are gone.
+/// the source's count of faults rose; `OutOfMemory` when memory runs out. After both, bytes that were read are gone.
 pub(crate) fn read_all<S: Source>(alloc: Global, source: &mut S) -> Result<Vec<u8>, ReadError>
     ensures read { IfOk result (λ bytes. ReadsUpTo 1048576 (S.left source.old) (S.left source.new) bytes.items) }
     ensures later { S.faults source.old ≤ S.faults source.new }
@@ -52,8 +52,8 @@ pub(crate) fn read_all<S: Source>(alloc: Global, source: &mut S) -> Result<Vec<u
 {
     let mut bytes = Vec::new(alloc);
     let mut chunk = [0; CHUNK];
-    while bytes.len() <= LONGEST_DOCUMENT {
-        let wanted = CHUNK.min(LONGEST_DOCUMENT + 1 - bytes.len());
+    while bytes.len() <= MAX_DOCUMENT_LEN {
+        let wanted = CHUNK.min(MAX_DOCUMENT_LEN + 1 - bytes.len());
         let count = source.read(&mut chunk[..wanted])?;
         if count == 0 {
             return Ok(bytes);

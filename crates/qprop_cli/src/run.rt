@@ -17,32 +17,32 @@ use trace_text::settled_text;
 
 /// Why a run of legs stopped.
 #[derive(Clone, Copy, Debug, PartialEq, Eq)]
-pub(crate) enum Stop {
+pub(crate) enum LegError {
     /// The sink failed.
     Fault,
-    /// Want of memory.
+    /// Out of memory.
     OutOfMemory,
 }
 
-impl From<OutOfMemory> for Stop {
-    ghost use Rattle.qprop_cli.specs.declared.run.Stop.TheVariants.{OutOfMemory as NoMemory};
+impl From<OutOfMemory> for LegError {
+    ghost use Rattle.qprop_cli.specs.declared.run.LegError.TheVariants.{OutOfMemory as NoMemory};
     ghost use Rattle.std.specs.Prelude.{◌≡◌};
 
     ghost from_gives = { λ _ e. e ≡ NoMemory };
 
     fn from(_: OutOfMemory) -> Self {
-        Stop::OutOfMemory
+        LegError::OutOfMemory
     }
 }
 
-impl From<Failed> for Stop {
-    ghost use Rattle.qprop_cli.specs.declared.run.Stop.TheVariants.{Fault};
+impl From<Failed> for LegError {
+    ghost use Rattle.qprop_cli.specs.declared.run.LegError.TheVariants.{Fault};
     ghost use Rattle.std.specs.Prelude.{◌≡◌};
 
     ghost from_gives = { λ _ e. e ≡ Fault };
 
     fn from(_: Failed) -> Self {
-        Stop::Fault
+        LegError::Fault
     }
 }
 
@@ -80,7 +80,7 @@ fn write_leg<K: Sink>(
     leg: &Leg,
     text: &mut Vec<u8>,
     sink: &mut K,
-) -> Result<(), Stop>
+) -> Result<(), LegError>
     requires quiet { is_quiet network.old ≡ true }
     requires leg { IsLegAfter network.old.rows leg.now }
     requires named { AreNamed (length (rows_after network.old.rows leg.now)) leg.now.steps }
@@ -91,7 +91,7 @@ fn write_leg<K: Sink>(
     ensures added { OnOk result (AddsBlock (K.held sink.old) (K.held sink.new) k (rows_after network.old.rows leg.now)) }
     ensures begun { OnErr result ((Keeps (K.held sink.old) (K.held sink.new)) ⊎ BeginsBlock (K.held sink.old) (K.held sink.new) k (rows_after network.old.rows leg.now)) }
     ensures later { K.faults sink.old ≤ K.faults sink.new }
-    ensures fault { IsErrOf result Stop.Fault → Rose (K.faults sink.old) (K.faults sink.new) }
+    ensures fault { IsErrOf result LegError.Fault → Rose (K.faults sink.old) (K.faults sink.new) }
 {
     settle_leg(network, k, leg, text)?;
     write_all(sink, text)?;
@@ -104,7 +104,7 @@ pub(crate) fn settle_legs<K: Sink>(
     alloc: Global,
     legs: &[Leg],
     sink: &mut K,
-) -> Result<Network, Stop>
+) -> Result<Network, LegError>
     requires legs { AreLegsAfter [] legs.now }
     requires named { EachNamed [] legs.now }
     requires few { length legs.now ≤ 1000 }
@@ -112,7 +112,7 @@ pub(crate) fn settle_legs<K: Sink>(
     ensures network { IfOk result (λ network. HasDone legs.now network) }
     ensures begun { OnErr result (AddsBlocks (K.held sink.old) (K.held sink.new) legs.now) }
     ensures later { K.faults sink.old ≤ K.faults sink.new }
-    ensures fault { IsErrOf result Stop.Fault → Rose (K.faults sink.old) (K.faults sink.new) }
+    ensures fault { IsErrOf result LegError.Fault → Rose (K.faults sink.old) (K.faults sink.new) }
 {
     let mut network = Network::new(alloc);
     let mut text = Vec::new(alloc);

@@ -7,7 +7,7 @@ ghost use Rattle.qprop_cli.specs.Outcome.{SettledOutput, RefusedOutput, AddsDue}
 use crate::answers::refuse;
 use crate::outcome::ended;
 use crate::reading::{ReadError, read_all};
-use crate::run::{Stop, settle_legs};
+use crate::run::{LegError, settle_legs};
 use crate::{Command, Outcome, Status};
 use document_reading::{DocError, Refusal, read_document};
 use std::alloc::Global;
@@ -47,7 +47,7 @@ pub(crate) fn step<S: Source, K: Sink>(alloc: Global, source: &mut S, sink: &mut
             status: Status::Done,
             network: Some(network),
         },
-        Err(Stop::Fault) => ended(Status::WriteFault),
-        Err(Stop::OutOfMemory) => ended(Status::OutOfMemory),
+        Err(LegError::Fault) => ended(Status::WriteFault),
+        Err(LegError::OutOfMemory) => ended(Status::OutOfMemory),
     }
 }

@@ -6,7 +6,7 @@ ghost use Rattle.wire_frame.specs.Taking.{IsFrame};
 ghost use Rattle.qprop_cli.specs.FrameText.{frame_line};
 ghost use Rattle.qprop_cli.specs.FrameStream.{BeginsWithFrame, HasFrames, IsStreamRefusal, HasLines, AddsLine};
 
-use crate::LONGEST_DOCUMENT;
+use crate::MAX_DOCUMENT_LEN;
 use crate::frame_text::push_frame;
 use document_reading::{Code, Refusal};
 use std::alloc::Global;
@@ -15,21 +15,21 @@ use wire_frame::{CutError, Cutter, Frame, FrameError, read_frame};
 
 /// Why a stream of frames was not read.
 #[derive(Clone, Copy, Debug, PartialEq, Eq)]
-pub(crate) enum StreamStop {
+pub(crate) enum StreamRefusal {
     /// The bytes are no stream of frames, or too many.
     Refused(Refusal),
-    /// Want of memory.
+    /// Out of memory.
     OutOfMemory,
 }
 
-impl From<OutOfMemory> for StreamStop {
-    ghost use Rattle.qprop_cli.specs.declared.stream.StreamStop.TheVariants.{OutOfMemory as NoMemory};
+impl From<OutOfMemory> for StreamRefusal {
+    ghost use Rattle.qprop_cli.specs.declared.stream.StreamRefusal.TheVariants.{OutOfMemory as NoMemory};
     ghost use Rattle.std.specs.Prelude.{◌≡◌};
 
     ghost from_gives = { λ _ e. e ≡ NoMemory };
 
     fn from(_: OutOfMemory) -> Self {
-        StreamStop::OutOfMemory
+        StreamRefusal::OutOfMemory
     }
 }
 
@@ -71,12 +71,12 @@ fn next_line(
 
 /// The lines of the frames of which `bytes` are a stream, in memory of `alloc`. `Refused` exactly where they are none, or
 /// more than a stream may have; the first wrong frame is told by its number, from 1.
-pub(crate) fn frames_text(alloc: Global, bytes: &[u8]) -> Result<Vec<u8>, StreamStop>
+pub(crate) fn frames_text(alloc: Global, bytes: &[u8]) -> Result<Vec<u8>, StreamRefusal>
     ensures lines { IfOk result (λ text. HasLines bytes.now text.items) }
-    ensures refused { (refusal : AnyRefusal) → result ≡ Err (StreamStop.Refused refusal) → IsStreamRefusal bytes.now refusal }
+    ensures refused { (refusal : AnyRefusal) → result ≡ Err (StreamRefusal.Refused refusal) → IsStreamRefusal bytes.now refusal }
 {
-    if LONGEST_DOCUMENT < bytes.len() {
-        return Err(StreamStop::Refused(Refusal {
+    if MAX_DOCUMENT_LEN < bytes.len() {
+        return Err(StreamRefusal::Refused(Refusal {
             line: 0,
             code: Code::E01,
         }));
@@ -89,7 +89,7 @@ pub(crate) fn frames_text(alloc: Global, bytes: &[u8]) -> Result<Vec<u8>, Stream
     let mut left = bytes.len();
     while left > 0 {
         let Some(size) = next_line(alloc, &mut cutter, &mut text)? else {
-            return Err(StreamStop::Refused(Refusal {
+            return Err(StreamRefusal::Refused(Refusal {
                 line: number,
                 code: Code::E20,
             }));

@@ -1,6 +1,6 @@
 // Documents that are checked.
 use crate::calls::{Ended, SUM, call, repeated};
-use qprop_cli::{LONGEST_DOCUMENT, Status};
+use qprop_cli::{MAX_DOCUMENT_LEN, Status};
 use std::alloc::Global;
 use std::test::Fail;
 
@@ -144,7 +144,7 @@ fn limits_are_exact(rt: HostRuntime) -> Result<(), Fail> {
         (repeated(alloc, "", "settle\n", 1001)?, "refused 1001 E19\n"),
         (repeated(alloc, "#", "c", 4096)?, "refused 1 E02\n"),
         (
-            repeated(alloc, "#", "c", LONGEST_DOCUMENT)?,
+            repeated(alloc, "#", "c", MAX_DOCUMENT_LEN)?,
             "refused 0 E01\n",
         ),
     ];

@@ -1,7 +1,7 @@
 // Streams of frames.
 use crate::calls::{Ended, call, call_with, repeated};
 use document_reading::{Code, Refusal};
-use qprop_cli::{LONGEST_DOCUMENT, Status};
+use qprop_cli::{MAX_DOCUMENT_LEN, Status};
 use std::alloc::Global;
 use std::test::Fail;
 
@@ -115,10 +115,10 @@ fn the_limits_of_streams_are_exact(rt: HostRuntime) -> Result<(), Fail> {
     assert!(rt; ended.status == Status::Done);
     assert!(rt; ended.held.as_slice().starts_with(b"value2 1 \"aaaa"));
     assert!(rt; ended.held.as_slice().ends_with(b",62:1,63:1\n"));
-    let most = repeated(alloc, "", "\0", LONGEST_DOCUMENT)?;
+    let most = repeated(alloc, "", "\0", MAX_DOCUMENT_LEN)?;
     let ended = frames(alloc, most.as_slice())?;
     assert_eq!(rt; ended.held.as_slice(), b"refused 1 E20\n".as_slice());
-    let more = repeated(alloc, "\0", "\0", LONGEST_DOCUMENT)?;
+    let more = repeated(alloc, "\0", "\0", MAX_DOCUMENT_LEN)?;
     let ended = frames(alloc, more.as_slice())?;
     assert_eq!(rt; ended.held.as_slice(), b"refused 0 E01\n".as_slice());
     Ok(())

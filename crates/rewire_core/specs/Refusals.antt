@@ -6,7 +6,7 @@ use Rattle.service_machine.specs.Refusing.Refusal.{RankNotHigher as NotHigher, T
 use Rattle.rewire_core.specs.declared.errors.ReaderError.{ReaderError}
 use Rattle.rewire_core.specs.declared.errors.ReaderError.TheVariants.{RankNotHigher, Twice, EpochBack, Unknown, OutOfMemory}
 
--- want of memory refuses nothing
+-- out of memory refuses nothing
 abbrev pub refusal_of : ReaderError → Option Refusal
 refusal_of RankNotHigher = Some NotHigher
 refusal_of Twice = Some Again

@@ -13,7 +13,7 @@ pub enum ReaderError {
     EpochBack { had: Clock },
     /// The reader does not read under this epoch.
     Unknown,
-    /// Want of memory.
+    /// Out of memory.
     OutOfMemory,
 }
 

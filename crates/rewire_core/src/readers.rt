@@ -45,7 +45,7 @@ impl Readers {
 
     /// `reader` reads from now on, under `epoch`; `above` says that its rank is known to be above that of the service. It is
     /// refused, in this order: `RankNotHigher` exactly where `above` is false; `Twice` exactly where it reads already;
-    /// `EpochBack` exactly where its last epoch, or 0 without one, is not below this one; `OutOfMemory` for want of memory. A
+    /// `EpochBack` exactly where its last epoch, or 0 without one, is not below this one; `OutOfMemory` when memory runs out. A
     /// refusal leaves the readers as they were.
     pub fn subscribe(
         &mut self,

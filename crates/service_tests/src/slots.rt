@@ -10,7 +10,7 @@ use std::process::Abort;
 use std::sync::ledger::{Blank, Ledger};
 use std::test::Fail;
 use svc_value::{Clock, OutOfMemory, ServiceId, Steps, Value, put_value};
-use wire_frame::{FrameIn, PlaceClock, read_lent};
+use wire_frame::{FrameRef, PlaceClock, read_frame_ref};
 
 /// What comes. A value is a number; its clocks are all that number.
 #[derive(Clone, Copy, Debug, PartialEq, Eq)]
@@ -81,8 +81,8 @@ fn put(
 }
 
 fn put_bytes(alloc: Global, slot: &mut Slot, own: u32, bytes: &[u8]) -> Answer {
-    match read_lent(alloc, bytes) {
-        Ok((FrameIn::Changed(delta), _)) => {
+    match read_frame_ref(alloc, bytes) {
+        Ok((FrameRef::Changed(delta), _)) => {
             answer_of(slot.put_places(Clock(own), delta.epoch, delta.value, delta.clocks))
         }
         _ => Answer::Unread,

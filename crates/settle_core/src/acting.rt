@@ -1,8 +1,8 @@
 // What one node does in a network: it makes room in its links, does an event of its own, and hands over what it sent.
 ghost use Rattle.std.specs.Prelude.{◌≡◌, ◌≢◌, ◌↔◌, ◌+◌, ◌<◌, ◌≤◌, ◌==◌, if◌then◌else◌, ℕ, suc, [], ◌∷◌, ◌++◌, length, slice_get, option_map, IfOk, IfErr, OnOk, OnErr, IsTrue, Some};
-ghost use Rattle.propagation.specs.Words.{Apart, Has};
+ghost use Rattle.propagation.specs.Lists.{AreDistinct, Has};
 ghost use Rattle.service_machine.specs.States.{services};
-ghost use Rattle.service_machine.specs.Steps.{chosen, done, done_log, targets, turned as turned_in, turn_log};
+ghost use Rattle.service_machine.specs.Steps.{choice_of, after_changing, done_log, targets, after_turning as turned_in, turn_log};
 ghost use Rattle.svc_graph.specs.declared.definition.Definition.{Definition as TheDefinition};
 ghost use Rattle.svc_graph.specs.History.{at_clock, dependencies, meaning_of};
 ghost use Rattle.node_core.specs.Answers.{IsAnswer};
@@ -28,8 +28,8 @@ pub(crate) fn hand_over(node: &mut Node, links: &mut Links, from: ServiceId)
     ensures links { (q p : ℕ) → p < 64 → waits (waiting_in links.new.items) q p ≡ waits (waiting_in links.old.items) q p ++ (if p == from then waiting q node.old.outbox else []) }
     ensures len { length links.new.items ≡ length links.old.items }
 {
-    while let Some(post) = node.pop_out() {
-        let (to, bytes) = post;
+    while let Some(outgoing_frame) = node.pop_out() {
+        let (to, bytes) = outgoing_frame;
         push(links, to, from, bytes);
     }
 }
@@ -48,7 +48,7 @@ fn turned_by<M: Ledger, L: Ledger>(
     requires looks_some { 0 < looks.parts }
     ensures state { OnOk result (node.new.state ≡ turned_in meaning_of node.old.state) }
     ensures log { OnOk result (Grows node.old node.new (turn_log meaning_of node.old.state)) }
-    ensures answer { IfOk result (IsAnswer (chosen node.old.state)) }
+    ensures answer { IfOk result (IsAnswer (choice_of node.old.state)) }
     ensures err { OnErr result (node.new ≡ node.old) }
 {
     let mut moves = Steps::<M>::new(moves);
@@ -60,7 +60,7 @@ fn turned_by<M: Ledger, L: Ledger>(
 fn turned(node: &mut Node) -> Result<Turned, OutOfMemory>
     ensures state { OnOk result (node.new.state ≡ turned_in meaning_of node.old.state) }
     ensures log { OnOk result (Grows node.old node.new (turn_log meaning_of node.old.state)) }
-    ensures answer { IfOk result (IsAnswer (chosen node.old.state)) }
+    ensures answer { IfOk result (IsAnswer (choice_of node.old.state)) }
     ensures err { OnErr result (node.new ≡ node.old) }
 {
     turned_by::<Brand, Brand>(node, Blank::new(1), Blank::new(1))
@@ -70,7 +70,7 @@ fn turned(node: &mut Node) -> Result<Turned, OutOfMemory>
 pub(crate) fn turn(node: &mut Node, links: &mut Links, id: ServiceId) -> Result<Turned, OutOfMemory>
     requires { CanTurn id node.old (length links.old.items) }
     ensures acts { OnOk result (NodeActs id (turned_in meaning_of node.old.state) (turn_log meaning_of node.old.state) node.old node.new (waiting_in links.old.items) (waiting_in links.new.items)) }
-    ensures answer { IfOk result (IsAnswer (chosen node.old.state)) }
+    ensures answer { IfOk result (IsAnswer (choice_of node.old.state)) }
     ensures err { OnErr result ((node.new ≡ node.old) × (waiting_in links.new.items ≡ waiting_in links.old.items)) }
 {
     reserve_all(links, node.readers(), id)?;
@@ -87,7 +87,7 @@ pub(crate) fn do_next(
     history: &History,
 ) -> Result<bool, OutOfMemory>
     requires { CanDo id node.old history.now (length links.old.items) }
-    ensures acts { OnOk result (NodeActs id (done dependencies node.old.state) (done_log dependencies node.old.state) node.old node.new (waiting_in links.old.items) (waiting_in links.new.items)) }
+    ensures acts { OnOk result (NodeActs id (after_changing dependencies node.old.state) (done_log dependencies node.old.state) node.old node.new (waiting_in links.old.items) (waiting_in links.new.items)) }
     ensures answer { IfOk result (λ is_done. IsTrue is_done ↔ (node.old.state.left ≢ [])) }
     ensures err { OnErr result ((node.new ≡ node.old) × (waiting_in links.new.items ≡ waiting_in links.old.items)) }
 {
@@ -99,7 +99,7 @@ pub(crate) fn do_next(
     Ok(is_done)
 }
 
-// The one refusal of a frame that is accepted: want of memory.
+// The one refusal of a frame that is accepted: out of memory.
 fn of_memory(refusal: TakeRefusal) -> OutOfMemory
     requires { refusal ≡ TakeRefusal.OutOfMemory }
 {

@@ -1,6 +1,6 @@
 // Room in links for what an event will send, made before it.
 ghost use Rattle.std.specs.Prelude.{◌≡◌, ◌<◌, ◌≤◌, ℕ, length, option_map, OnOk, Some};
-ghost use Rattle.propagation.specs.Words.{Has};
+ghost use Rattle.propagation.specs.Lists.{Has};
 ghost use Rattle.service_machine.specs.Steps.{targets};
 ghost use Rattle.svc_graph.specs.declared.definition.Definition.{Definition as TheDefinition};
 ghost use Rattle.svc_graph.specs.History.{dependencies};

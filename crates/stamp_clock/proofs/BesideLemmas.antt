@@ -4,7 +4,7 @@ use Rattle.std.proofs.lemmas.List.Elements.{All-nil, All-cons, All-head, All-tai
 use Rattle.std.specs.List.{zip}
 use Rattle.std.proofs.lemmas.Bool.{eqb-false, cases_Bool, cond-false}
 use Rattle.propagation.proofs.ByTest.{by_test}
-use Rattle.propagation.specs.Words.{Has}
+use Rattle.propagation.specs.Lists.{Has}
 use Rattle.propagation.specs.Stamps.{clock_of, keys, IsRising, Rise}
 use Rattle.service_machine.proofs.Raising.{clock-this, clock-other}
 use Rattle.stamp_clock.specs.Beside.{AreBeside, AreStamps, clocks}

@@ -4,7 +4,7 @@ use Rattle.std.proofs.lemmas.Bool.{cases_lt}
 use Rattle.std.proofs.lemmas.List.{map-append}
 use Rattle.std.proofs.lemmas.List.Elements.{All-nil, All-cons}
 use Rattle.std.specs.List.{zip}
-use Rattle.propagation.specs.Words.{Has}
+use Rattle.propagation.specs.Lists.{Has}
 use Rattle.propagation.specs.Stamps.{Stamps, clock_of, IsRising, Rise, Agree}
 use Rattle.service_machine.specs.States.{raise}
 use Rattle.service_machine.proofs.Raising.{clock-this, clock-other, clock-below, raise-rising, raise-clock, rising-same, rising-weaker}

@@ -8,7 +8,7 @@ use Rattle.std.proofs.Math.Nat.{mod-eq_of_lt}
 use Rattle.std.proofs.Math.Seq.{get_or-append_seam}
 use Rattle.std.specs.Int.Count.{ones}
 use Rattle.std.specs.Int.{bit_at, w64, bit_not, trailing_zeros}
-use Rattle.propagation.specs.Words.{Has}
+use Rattle.propagation.specs.Lists.{Has}
 use Rattle.propagation.specs.Stamps.{Rise}
 use Rattle.propagation.proofs.Lists.{Has-append_left, Has-append_right, Has-append_cases}
 use Rattle.stamp_clock.specs.Places.{places_below, places, AreKeys}

@@ -21,10 +21,10 @@ impl Model for Floor {
 
     ghost Value = { List (ℕ × ℕ) };
 
-    ghost use Rattle.stamp_clock.specs.Table.{risen};
+    ghost use Rattle.stamp_clock.specs.Table.{raised_clocks};
     ghost use Rattle.stamp_clock.specs.TableOf.{table_of, table_of-floor};
 
-    ghost view = { λ floor. risen 0 floor.clocks };
+    ghost view = { λ floor. raised_clocks 0 floor.clocks };
 
     ghost invariant = { λ floor. length floor.clocks ≡ 64 };
 

@@ -1,6 +1,6 @@
 // A set of services in one word.
 ghost use Rattle.std.specs.Prelude.{◌≡◌, ◌↔◌, ◌<◌, ◌≤◌, ◌⊎◌, [], ◌∷◌, ◌++◌, All, length, find, nat_le, IsTrue, slice_index};
-ghost use Rattle.propagation.specs.Words.{Has};
+ghost use Rattle.propagation.specs.Lists.{Has};
 ghost use Rattle.propagation.specs.Stamps.{Rise};
 
 use std::marker::Model;

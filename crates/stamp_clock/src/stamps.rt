@@ -1,7 +1,7 @@
 // Stamps in dense form: one bit for each key, and the clocks alone in a list.
 ghost use Rattle.std.specs.Prelude.{◌≡◌, ◌↔◌, ◌<◌, ◌⊎◌, [], ◌∷◌, All, map, max, length, find, nat_le, IsTrue, IfOk, IfSome, IsNone, slice_index};
 ghost use Rattle.std.specs.List.{zip};
-ghost use Rattle.propagation.specs.Words.{Has};
+ghost use Rattle.propagation.specs.Lists.{Has};
 ghost use Rattle.propagation.specs.Stamps.{Rise, Agree, clock_of, keys};
 ghost use Rattle.service_machine.specs.States.{raise};
 

@@ -4,7 +4,7 @@ use Rattle.std.proofs.lemmas.Bool.{cases_lt}
 use Rattle.std.proofs.lemmas.List.{length-set, get_or-set_same}
 use Rattle.propagation.specs.Stamps.{Stamps, clock_of, IsRising}
 use Rattle.service_machine.specs.States.{Slot, Head, raise, raise_all}
-use Rattle.service_machine.specs.Turning.{heads, with_head, tops}
+use Rattle.service_machine.specs.Turning.{heads, with_head, greatest_clocks}
 use Rattle.service_machine.proofs.Raising.{raise-clock, raise-rising}
 use Rattle.stamp_match.specs.Kept.{head_stamps, clock_in, greatest, IsRisingHead, AreRisingHeads}
 
@@ -15,23 +15,23 @@ greatest-raised F S (h ∷ hs) q f s = let rest : greatest (raise F S) hs q ≡ 
 
 module _ {V : Type 0} where
   -- they are the clocks of the machine's
-  pub greatest-tops : (slots : List (Slot V)) (F : Stamps) (q : ℕ) → IsRising 0 F → AreRisingHeads (head_stamps slots) → clock_of (tops slots F) q ≡ greatest F (head_stamps slots) q
-  greatest-tops [] F q f r = refl
-  greatest-tops (s ∷ rest) F q f r = go (λ G g. greatest-tops rest G q g r.1) s.head r.0
+  pub greatest-greatest_clocks : (slots : List (Slot V)) (F : Stamps) (q : ℕ) → IsRising 0 F → AreRisingHeads (head_stamps slots) → clock_of (greatest_clocks slots F) q ≡ greatest F (head_stamps slots) q
+  greatest-greatest_clocks [] F q f r = refl
+  greatest-greatest_clocks (s ∷ rest) F q f r = go (λ G g. greatest-greatest_clocks rest G q g r.1) s.head r.0
     where
-      go : ((G : Stamps) → IsRising 0 G → clock_of (tops rest G) q ≡ greatest G (head_stamps rest) q) → (o : Option (Head V)) → IsRisingHead (option_map (λ (h : Head V). h.emission.stamps) o) →
+      go : ((G : Stamps) → IsRising 0 G → clock_of (greatest_clocks rest G) q ≡ greatest G (head_stamps rest) q) → (o : Option (Head V)) → IsRisingHead (option_map (λ (h : Head V). h.emission.stamps) o) →
           clock_of (raise_all F (with_head o (heads rest))) q ≡ max (clock_in (option_map (λ (h : Head V). h.emission.stamps) o) q) (greatest F (head_stamps rest) q)
-      go prior None t = let all : clock_of (tops rest F) q ≡ greatest F (head_stamps rest) q = prior F f in omega arith
+      go prior None t = let all : clock_of (greatest_clocks rest F) q ≡ greatest F (head_stamps rest) q = prior F f in omega arith
       go prior (Some h) t =
-          let all : clock_of (tops rest (raise F h.emission.stamps)) q ≡ greatest (raise F h.emission.stamps) (head_stamps rest) q = prior (raise F h.emission.stamps) (raise-rising F 0 h.emission.stamps f t) in
+          let all : clock_of (greatest_clocks rest (raise F h.emission.stamps)) q ≡ greatest (raise F h.emission.stamps) (head_stamps rest) q = prior (raise F h.emission.stamps) (raise-rising F 0 h.emission.stamps f t) in
           let more : greatest (raise F h.emission.stamps) (head_stamps rest) q ≡ max (greatest F (head_stamps rest) q) (clock_of h.emission.stamps q) = greatest-raised F h.emission.stamps (head_stamps rest) q f t in
           omega arith
 
-  pub tops-rising : (slots : List (Slot V)) (F : Stamps) → IsRising 0 F → AreRisingHeads (head_stamps slots) → IsRising 0 (tops slots F)
-  tops-rising [] F f r = f
-  tops-rising (s ∷ rest) F f r = go (λ G g. tops-rising rest G g r.1) s.head r.0
+  pub greatest_clocks-rising : (slots : List (Slot V)) (F : Stamps) → IsRising 0 F → AreRisingHeads (head_stamps slots) → IsRising 0 (greatest_clocks slots F)
+  greatest_clocks-rising [] F f r = f
+  greatest_clocks-rising (s ∷ rest) F f r = go (λ G g. greatest_clocks-rising rest G g r.1) s.head r.0
     where
-      go : ((G : Stamps) → IsRising 0 G → IsRising 0 (tops rest G)) → (o : Option (Head V)) → IsRisingHead (option_map (λ (h : Head V). h.emission.stamps) o) → IsRising 0 (raise_all F (with_head o (heads rest)))
+      go : ((G : Stamps) → IsRising 0 G → IsRising 0 (greatest_clocks rest G)) → (o : Option (Head V)) → IsRisingHead (option_map (λ (h : Head V). h.emission.stamps) o) → IsRising 0 (raise_all F (with_head o (heads rest)))
       go prior None t = prior F f
       go prior (Some h) t = prior (raise F h.emission.stamps) (raise-rising F 0 h.emission.stamps f t)
 

@@ -1,7 +1,7 @@
 -- The keys on which a greatest clock may fall, as they are found.
 use Rattle.std.proofs.Common.{◌≡◌, ℕ, suc, ◌<◌, ◌≤◌, List, [], ◌∷◌, ◌++◌, Option, Some, None, ◌⊎◌, inl, inr, refl, sym, subst, ap, ◌∙◌, arith}
 use Rattle.std.proofs.lemmas.Bool.{cases_eq}
-use Rattle.propagation.specs.Words.{Has}
+use Rattle.propagation.specs.Lists.{Has}
 use Rattle.propagation.specs.Stamps.{Stamps, clock_of, IsRising}
 use Rattle.propagation.proofs.Keys.{rising-clocks}
 use Rattle.propagation.proofs.Lists.{Has-append_left, Has-append_right, Has-append_cases}

@@ -11,31 +11,31 @@ use Rattle.stamp_match.specs.Moved.{IsMoved}
 use Rattle.stamp_match.proofs.GreatestLemmas.{greatest-raised, greatest-within, greatest-moved, heads-at, heads-set}
 
 -- each flag follows the greatest clocks
-pub kept-followed : (hs : List (Option Stamps)) (floor : Stamps) (m : Matcher) (i : ℕ) → IsKept hs floor m → i < length hs → IsFollowed m.tops (slice_index_or m.lagging i false) (slice_index_or hs i None)
+pub kept-followed : (hs : List (Option Stamps)) (floor : Stamps) (m : Matcher) (i : ℕ) → IsKept hs floor m → i < length hs → IsFollowed m.greatest_clocks (slice_index_or m.lagging i false) (slice_index_or hs i None)
 kept-followed hs floor m i h lt = record {
   rising = heads-at hs i h.heads_rise;
-  within = λ q. let le : clock_in (slice_index_or hs i None) q ≤ greatest floor hs q = greatest-within floor hs i q lt in let is : clock_of m.tops q ≡ greatest floor hs q = h.tops q in omega arith;
+  within = λ q. let le : clock_in (slice_index_or hs i None) q ≤ greatest floor hs q = greatest-within floor hs i q lt in let is : clock_of m.greatest_clocks q ≡ greatest floor hs q = h.greatest_clocks q in omega arith;
   flag = h.lagging i lt;
 }
 
 -- the floor and the greatest clocks are raised alike
-pub kept-raised : (hs : List (Option Stamps)) (floor S : Stamps) (m new : Matcher) → IsKept hs floor m → IsRising 0 S → length new.lagging ≡ 16 → new.tops ≡ raise m.tops S →
-    ((i : ℕ) → i < length hs → IsFollowed m.tops (slice_index_or m.lagging i false) (slice_index_or hs i None) → IsFollowed new.tops (slice_index_or new.lagging i false) (slice_index_or hs i None)) →
+pub kept-raised : (hs : List (Option Stamps)) (floor S : Stamps) (m new : Matcher) → IsKept hs floor m → IsRising 0 S → length new.lagging ≡ 16 → new.greatest_clocks ≡ raise m.greatest_clocks S →
+    ((i : ℕ) → i < length hs → IsFollowed m.greatest_clocks (slice_index_or m.lagging i false) (slice_index_or hs i None) → IsFollowed new.greatest_clocks (slice_index_or new.lagging i false) (slice_index_or hs i None)) →
     IsKept hs (raise floor S) new
 kept-raised hs floor S m new h s long is followed = record {
   few = h.few;
   places = long;
   floor_rises = raise-rising floor 0 S h.floor_rises s;
   heads_rise = h.heads_rise;
-  tops_rise = subst (λ (T : Stamps). IsRising 0 T) (sym is) (raise-rising m.tops 0 S h.tops_rise s);
-  tops = λ q.
-      ap (λ (T : Stamps). clock_of T q) is ∙ raise-clock m.tops 0 S q h.tops_rise s ∙ ap (λ n. max n (clock_of S q)) (h.tops q) ∙ sym (greatest-raised floor S hs q h.floor_rises s);
+  tops_rise = subst (λ (T : Stamps). IsRising 0 T) (sym is) (raise-rising m.greatest_clocks 0 S h.tops_rise s);
+  greatest_clocks = λ q.
+      ap (λ (T : Stamps). clock_of T q) is ∙ raise-clock m.greatest_clocks 0 S q h.tops_rise s ∙ ap (λ n. max n (clock_of S q)) (h.greatest_clocks q) ∙ sym (greatest-raised floor S hs q h.floor_rises s);
   lagging = λ i lt. (followed i lt (kept-followed hs floor m i h lt)).flag;
 }
 
 -- another head comes, and no greatest clock above the floor's falls
 pub kept-moved : (hs : List (Option Stamps)) (floor : Stamps) (place : ℕ) (head : Option Stamps) (m new : Matcher) → place < length hs → IsKept hs floor m → IsMoved (set hs place head) place m new →
-    ((q : ℕ) → clock_of m.tops q ≤ clock_in (slice_index_or hs place None) q → clock_of floor q < clock_in (slice_index_or hs place None) q → clock_in (slice_index_or hs place None) q ≤ clock_in head q) →
+    ((q : ℕ) → clock_of m.greatest_clocks q ≤ clock_in (slice_index_or hs place None) q → clock_of floor q < clock_in (slice_index_or hs place None) q → clock_in (slice_index_or hs place None) q ≤ clock_in head q) →
     IsKept (set hs place head) floor new
 kept-moved hs floor place head m new lt h moved stays =
     let there : slice_index_or (set hs place head) place None ≡ head = get_or-set_same hs place head None lt in
@@ -45,15 +45,15 @@ kept-moved hs floor place head m new lt h moved stays =
       floor_rises = h.floor_rises;
       heads_rise = heads-set hs place head h.heads_rise (subst IsRisingHead there moved.head);
       tops_rise = moved.rising;
-      tops = λ q.
-          moved.raised q ∙ ap (λ o. max (clock_of m.tops q) (clock_in o q)) there ∙ ap (λ n. max n (clock_in head q)) (h.tops q)
-          ∙ greatest-moved floor hs place head q lt (λ top above. stays q (let is : clock_of m.tops q ≡ greatest floor hs q = h.tops q in omega arith) above);
+      greatest_clocks = λ q.
+          moved.raised q ∙ ap (λ o. max (clock_of m.greatest_clocks q) (clock_in o q)) there ∙ ap (λ n. max n (clock_in head q)) (h.greatest_clocks q)
+          ∙ greatest-moved floor hs place head q lt (λ top above. stays q (let is : clock_of m.greatest_clocks q ≡ greatest floor hs q = h.greatest_clocks q in omega arith) above);
       lagging = λ i lt_i.
           elim (cases_eq i place) [
-            | inl e ↦ subst (λ j. slice_index_or new.lagging j false ≡ lags new.tops (slice_index_or (set hs place head) j None)) (sym e) moved.own
+            | inl e ↦ subst (λ j. slice_index_or new.lagging j false ≡ lags new.greatest_clocks (slice_index_or (set hs place head) j None)) (sym e) moved.own
             | inr ne ↦
                 (let same : slice_index_or (set hs place head) i None ≡ slice_index_or hs i None = get_or-set_other hs place i head None ne in
                 let within : i < length hs = omega (arith, length-set hs place head) in
-                (moved.others i lt_i ne (subst (λ o. IsFollowed m.tops (slice_index_or m.lagging i false) o) (sym same) (kept-followed hs floor m i h within))).flag)
+                (moved.others i lt_i ne (subst (λ o. IsFollowed m.greatest_clocks (slice_index_or m.lagging i false) o) (sym same) (kept-followed hs floor m i h within))).flag)
           ];
     }

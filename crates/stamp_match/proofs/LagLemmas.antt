@@ -55,9 +55,9 @@ module _ (T : Stamps) (k c : ℕ) (rising : IsRising 0 T) (pos : 0 < c) where
       ]
 
   -- a head that has the key lags then, and another does where it did
-  pub flag-risen : (head : Option Stamps) → clock_of T k < c → IsRisingHead head → clock_in head k ≤ clock_of T k → (lags T head || nat_lt 0 (clock_in head k)) ≡ lags (raise_one T k c) head
-  flag-risen None lt r within = refl
-  flag-risen (Some S) lt r within =
+  pub flag-raised_clocks : (head : Option Stamps) → clock_of T k < c → IsRisingHead head → clock_in head k ≤ clock_of T k → (lags T head || nat_lt 0 (clock_in head k)) ≡ lags (raise_one T k c) head
+  flag-raised_clocks None lt r within = refl
+  flag-raised_clocks (Some S) lt r within =
       elim (cases_lt 0 (clock_of S k)) [
         | inl has ↦ ap (λ b. lags T (Some S) || b) (has-key (clock_of S k) has) ∙ or-true (lags T (Some S)) ∙ sym (go (lag (raise_one T k c) S) refl has)
         | inr none ↦
@@ -72,11 +72,11 @@ module _ (T : Stamps) (k c : ℕ) (rising : IsRising 0 T) (pos : 0 < c) where
       go None e has = absurd (let le : clock_of (raise_one T k c) k ≤ clock_of S k = lag-none (raise_one T k c) S e k has in let is : clock_of (raise_one T k c) k ≡ max (clock_of T k) c = one-this in omega arith)
       go (Some key) e has = refl
 
-  pub followed-risen : (flag new : Bool) (head : Option Stamps) → clock_of T k < c → new ≡ (flag || nat_lt 0 (clock_in head k)) → IsFollowed T flag head → IsFollowed (raise_one T k c) new head
-  followed-risen flag new head lt is h = record {
+  pub followed-raised_clocks : (flag new : Bool) (head : Option Stamps) → clock_of T k < c → new ≡ (flag || nat_lt 0 (clock_in head k)) → IsFollowed T flag head → IsFollowed (raise_one T k c) new head
+  followed-raised_clocks flag new head lt is h = record {
     rising = h.rising;
     within = λ q. let a : clock_in head q ≤ clock_of T q = h.within q in let b : clock_of T q ≤ clock_of (raise_one T k c) q = one-within q in omega arith;
-    flag = is ∙ ap (λ b. b || nat_lt 0 (clock_in head k)) h.flag ∙ flag-risen head lt h.rising (h.within k);
+    flag = is ∙ ap (λ b. b || nat_lt 0 (clock_in head k)) h.flag ∙ flag-raised_clocks head lt h.rising (h.within k);
   }
 
   pub followed-same : (flag : Bool) (head : Option Stamps) → c ≤ clock_of T k → IsFollowed T flag head → IsFollowed (raise_one T k c) flag head

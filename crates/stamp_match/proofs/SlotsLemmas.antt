@@ -27,12 +27,12 @@ module _ {V : Type 0} where
       go (Some h) e = absurd (cc e)
   headless-at (y ∷ rest) (suc i) x lt is gone = headless-at rest i x (omega arith) is gone
 
-  pub lagging-at : (tops : Stamps) (xs : List (Slot V)) (i : ℕ) (x : Slot V) (m : Emission V) (key : ℕ) → i < length xs → x ≡ get_or xs i x → emission_of x.head ≡ Some m → lag tops m.stamps ≡ Some key →
-      lagging tops (drop i xs) ≡ option_map (λ (s : Slot V). (s, key)) (slice_get xs i)
-  lagging-at tops [] i x m key lt is some late = absurd (omega arith)
-  lagging-at tops (y ∷ rest) zero x m key lt is some late = go y.head (ap (λ (z : Slot V). emission_of z.head) (sym is) ∙ some)
+  pub lagging-at : (greatest_clocks : Stamps) (xs : List (Slot V)) (i : ℕ) (x : Slot V) (m : Emission V) (key : ℕ) → i < length xs → x ≡ get_or xs i x → emission_of x.head ≡ Some m → lag greatest_clocks m.stamps ≡ Some key →
+      lagging greatest_clocks (drop i xs) ≡ option_map (λ (s : Slot V). (s, key)) (slice_get xs i)
+  lagging-at greatest_clocks [] i x m key lt is some late = absurd (omega arith)
+  lagging-at greatest_clocks (y ∷ rest) zero x m key lt is some late = go y.head (ap (λ (z : Slot V). emission_of z.head) (sym is) ∙ some)
     where
-      go : (o : Option (Head V)) → emission_of o ≡ Some m → if_lagging (head_lag tops o) y (lagging tops rest) ≡ Some (y, key)
+      go : (o : Option (Head V)) → emission_of o ≡ Some m → if_lagging (head_lag greatest_clocks o) y (lagging greatest_clocks rest) ≡ Some (y, key)
       go None e = absurd (cc e)
-      go (Some h) e = ap (λ o. if_lagging o y (lagging tops rest)) (ap (λ (k : Emission V). lag tops k.stamps) (same_Some h.emission m e) ∙ late)
-  lagging-at tops (y ∷ rest) (suc i) x m key lt is some late = lagging-at tops rest i x m key (omega arith) is some late
+      go (Some h) e = ap (λ o. if_lagging o y (lagging greatest_clocks rest)) (ap (λ (k : Emission V). lag greatest_clocks k.stamps) (same_Some h.emission m e) ∙ late)
+  lagging-at greatest_clocks (y ∷ rest) (suc i) x m key lt is some late = lagging-at greatest_clocks rest i x m key (omega arith) is some late

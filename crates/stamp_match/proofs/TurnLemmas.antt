@@ -5,10 +5,10 @@ use Rattle.std.proofs.lemmas.List.{get_or-map, get_or_default, length-map}
 use Rattle.propagation.specs.Stamps.{Stamps, clock_of}
 use Rattle.propagation.specs.Logs.{Emission}
 use Rattle.service_machine.specs.States.{Slot, Head, emission_of, empty_slot}
-use Rattle.service_machine.specs.Turning.{lagging, head_lag, if_lagging, tops, heads, with_head}
+use Rattle.service_machine.specs.Turning.{lagging, head_lag, if_lagging, greatest_clocks, heads, with_head}
 use Rattle.stamp_match.specs.declared.matcher.Matcher.{Matcher}
 use Rattle.stamp_match.specs.Kept.{head_stamps, lags, slot_in, IsKept}
-use Rattle.stamp_match.proofs.GreatestLemmas.{greatest-tops}
+use Rattle.stamp_match.proofs.GreatestLemmas.{greatest-greatest_clocks}
 use Rattle.stamp_match.specs.Looks.{head_keys, keys_in}
 use Rattle.stamp_match.specs.Moved.{Leads}
 use Rattle.stamp_match.proofs.LagLemmas.{lag-same}
@@ -75,8 +75,8 @@ module _ {V : Type 0} where
   leads-on T xs i lt late = let more : suc i ≡ i + 1 = omega arith in on T xs i lt late ∙ ap (λ n. lagging T (drop n xs)) more
 
   -- the greatest clocks of a matcher are those of the machine
-  pub tops-same : (slots : List (Slot V)) (floor : Stamps) (matcher : Matcher) → IsKept (head_stamps slots) floor matcher → lagging (tops slots floor) slots ≡ lagging matcher.tops slots
-  tops-same slots floor matcher h = lagging-same (tops slots floor) matcher.tops slots (λ q. greatest-tops slots floor q h.floor_rises h.heads_rise ∙ sym (h.tops q))
+  pub greatest_clocks-same : (slots : List (Slot V)) (floor : Stamps) (matcher : Matcher) → IsKept (head_stamps slots) floor matcher → lagging (greatest_clocks slots floor) slots ≡ lagging matcher.greatest_clocks slots
+  greatest_clocks-same slots floor matcher h = lagging-same (greatest_clocks slots floor) matcher.greatest_clocks slots (λ q. greatest-greatest_clocks slots floor q h.floor_rises h.heads_rise ∙ sym (h.greatest_clocks q))
 
   keys-here : (o : Option (Head V)) (rest : List (Slot V)) → sum_by (λ (m : Emission V). length m.stamps) (with_head o (heads rest)) ≡ keys_in o + head_keys rest
   keys-here None rest = omega arith

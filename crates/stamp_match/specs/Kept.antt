@@ -24,10 +24,10 @@ abbrev pub greatest : Stamps → List (Option Stamps) → ℕ → ℕ
 greatest floor [] q = clock_of floor q
 greatest floor (head ∷ rest) q = max (clock_in head q) (greatest floor rest q)
 
--- whether a head has a clock below the one of `tops`
+-- whether a head has a clock below the one of `greatest_clocks`
 abbrev pub lags : Stamps → Option Stamps → Bool
-lags tops None = false
-lags tops (Some S) = is_some (lag tops S)
+lags greatest_clocks None = false
+lags greatest_clocks (Some S) = is_some (lag greatest_clocks S)
 
 -- the keys of a head rise
 abbrev pub IsRisingHead : Option Stamps → Type 0
@@ -39,11 +39,11 @@ abbrev pub AreRisingHeads : List (Option Stamps) → Type 0
 AreRisingHeads [] = Unit {0}
 AreRisingHeads (head ∷ rest) = IsRisingHead head × AreRisingHeads rest
 
--- no clock of the head is above the one of `tops`, and the flag says whether one is below it
-pub record IsFollowed (tops : Stamps) (flagged : Bool) (head : Option Stamps) : Type 0 where
+-- no clock of the head is above the one of `greatest_clocks`, and the flag says whether one is below it
+pub record IsFollowed (greatest_clocks : Stamps) (flagged : Bool) (head : Option Stamps) : Type 0 where
   pub rising : IsRisingHead head
-  pub within : (q : ℕ) → clock_in head q ≤ clock_of tops q
-  pub flag : flagged ≡ lags tops head
+  pub within : (q : ℕ) → clock_in head q ≤ clock_of greatest_clocks q
+  pub flag : flagged ≡ lags greatest_clocks head
 
 -- for each key the greatest clock of the floor and of these heads, and which of the heads lag
 pub record IsKept (heads : List (Option Stamps)) (floor : Stamps) (matcher : Matcher) : Type 0 where
@@ -51,9 +51,9 @@ pub record IsKept (heads : List (Option Stamps)) (floor : Stamps) (matcher : Mat
   pub places : length matcher.lagging ≡ 16
   pub floor_rises : IsRising 0 floor
   pub heads_rise : AreRisingHeads heads
-  pub tops_rise : IsRising 0 matcher.tops
-  pub tops : (q : ℕ) → clock_of matcher.tops q ≡ greatest floor heads q
-  pub lagging : (place : ℕ) → place < length heads → slice_index_or matcher.lagging place false ≡ lags matcher.tops (slice_index_or heads place None)
+  pub tops_rise : IsRising 0 matcher.greatest_clocks
+  pub greatest_clocks : (q : ℕ) → clock_of matcher.greatest_clocks q ≡ greatest floor heads q
+  pub lagging : (place : ℕ) → place < length heads → slice_index_or matcher.lagging place false ≡ lags matcher.greatest_clocks (slice_index_or heads place None)
 
 -- the same of slots: it depends on the stamps of their heads alone
 abbrev pub IsMatcherOf : {V : Type 0} → List (Slot V) → Stamps → Matcher → Type 0

@@ -10,28 +10,28 @@ use Rattle.stamp_match.specs.declared.matcher.Matcher.{Matcher}
 -- the greatest clocks took those of the head at the place, and the flags follow
 pub record IsRaised (heads : List (Option Stamps)) (place : ℕ) (old new : Matcher) : Type 0 where
   pub places : length new.lagging ≡ 16
-  pub rising : IsRising 0 new.tops
-  pub raised : (q : ℕ) → clock_of new.tops q ≡ max (clock_of old.tops q) (clock_in (slice_index_or heads place None) q)
+  pub rising : IsRising 0 new.greatest_clocks
+  pub raised : (q : ℕ) → clock_of new.greatest_clocks q ≡ max (clock_of old.greatest_clocks q) (clock_in (slice_index_or heads place None) q)
   pub followed : (other : ℕ) → other < length heads →
-      IsFollowed old.tops (slice_index_or old.lagging other false) (slice_index_or heads other None) →
-      IsFollowed new.tops (slice_index_or new.lagging other false) (slice_index_or heads other None)
+      IsFollowed old.greatest_clocks (slice_index_or old.lagging other false) (slice_index_or heads other None) →
+      IsFollowed new.greatest_clocks (slice_index_or new.lagging other false) (slice_index_or heads other None)
 
 -- and the flag of that head is found
 pub record IsMoved (heads : List (Option Stamps)) (place : ℕ) (old new : Matcher) : Type 0 where
   pub places : length new.lagging ≡ 16
-  pub rising : IsRising 0 new.tops
+  pub rising : IsRising 0 new.greatest_clocks
   pub head : IsRisingHead (slice_index_or heads place None)
-  pub raised : (q : ℕ) → clock_of new.tops q ≡ max (clock_of old.tops q) (clock_in (slice_index_or heads place None) q)
+  pub raised : (q : ℕ) → clock_of new.greatest_clocks q ≡ max (clock_of old.greatest_clocks q) (clock_in (slice_index_or heads place None) q)
   pub others : (other : ℕ) → other < length heads → other ≢ place →
-      IsFollowed old.tops (slice_index_or old.lagging other false) (slice_index_or heads other None) →
-      IsFollowed new.tops (slice_index_or new.lagging other false) (slice_index_or heads other None)
-  pub own : slice_index_or new.lagging place false ≡ lags new.tops (slice_index_or heads place None)
+      IsFollowed old.greatest_clocks (slice_index_or old.lagging other false) (slice_index_or heads other None) →
+      IsFollowed new.greatest_clocks (slice_index_or new.lagging other false) (slice_index_or heads other None)
+  pub own : slice_index_or new.lagging place false ≡ lags new.greatest_clocks (slice_index_or heads place None)
 
 -- the slot at the place is the first whose head lags
-pub record Leads {V : Type 0} (tops : Stamps) (slots : List (Slot V)) (place : ℕ) : Type 0 where
+pub record Leads {V : Type 0} (greatest_clocks : Stamps) (slots : List (Slot V)) (place : ℕ) : Type 0 where
   pub slot : Slot V
   pub key : ℕ
   pub within : place < length slots
   pub at : slice_get slots place ≡ Some slot
-  pub lags : head_lag tops slot.head ≡ Some key
-  pub first : lagging tops slots ≡ Some (slot, key)
+  pub lags : head_lag greatest_clocks slot.head ≡ Some key
+  pub first : lagging greatest_clocks slots ≡ Some (slot, key)

@@ -11,12 +11,12 @@ abbrev pub sender_at : {V : Type 0} → List (Slot V) → ℕ → ℕ
 sender_at slots place = unwrap_or (option_map (λ slot. slot.sender) (slice_get slots place)) 0
 
 -- what a turn does, where places stand for their slots
-abbrev pub named : {V : Type 0} → List (Slot V) → Choice → Turn
-named slots (Advance place) = Moves (sender_at slots place)
-named slots Ready = Compute
-named slots (Empty place) = Lacks (sender_at slots place)
-named slots (Lags place key) = Trails (sender_at slots place) key
-named slots Still = Rests
+abbrev pub turn_of : {V : Type 0} → List (Slot V) → Choice → Turn
+turn_of slots (Advance place) = Moves (sender_at slots place)
+turn_of slots Ready = Compute
+turn_of slots (Empty place) = Lacks (sender_at slots place)
+turn_of slots (Lags place key) = Trails (sender_at slots place) key
+turn_of slots Still = Rests
 
 -- the place that is named is one of so many
 abbrev pub IsAmong : ℕ → Choice → Type 0

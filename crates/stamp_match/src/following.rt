@@ -34,70 +34,84 @@ fn mark(lagging: &mut [bool], slots: &[Slot], key: ServiceId)
 }
 
 // A key has at least this clock: where its greatest clock rises, the heads that have the key lag.
-fn raise_key(tops: &mut Floor, lagging: &mut [bool], slots: &[Slot], key: ServiceId, clock: Clock)
+fn raise_key(
+    greatest_clocks: &mut Floor,
+    lagging: &mut [bool],
+    slots: &[Slot],
+    key: ServiceId,
+    clock: Clock,
+)
     requires room { length slots.now ≤ length lagging.old }
-    requires rising { IsRising 0 tops.old }
+    requires rising { IsRising 0 greatest_clocks.old }
     requires below { key < 64 }
     requires positive { 0 < clock }
-    ensures raised { tops.new ≡ raised_one tops.old key clock }
-    ensures rising { IsRising 0 tops.new }
+    ensures raised { greatest_clocks.new ≡ raised_one greatest_clocks.old key clock }
+    ensures rising { IsRising 0 greatest_clocks.new }
     ensures followed { (place : ℕ) → place < length slots.now →
-        IsFollowed tops.old (slice_index_or lagging.old place false) (slice_index_or (head_stamps slots.now) place None) →
-        IsFollowed tops.new (slice_index_or lagging.new place false) (slice_index_or (head_stamps slots.now) place None) }
+        IsFollowed greatest_clocks.old (slice_index_or lagging.old place false) (slice_index_or (head_stamps slots.now) place None) →
+        IsFollowed greatest_clocks.new (slice_index_or lagging.new place false) (slice_index_or (head_stamps slots.now) place None) }
 {
-    if is_above(tops, key, clock) {
+    if is_above(greatest_clocks, key, clock) {
         mark(lagging, slots, key);
     }
-    tops.raise_one(key, clock);
+    greatest_clocks.raise_one(key, clock);
 }
 
 // Takes for each key the greater clock of the two: where a greatest clock rises, the heads that have its key lag.
 pub(crate) fn raise_keys<L: Ledger>(
-    tops: &mut Floor,
+    greatest_clocks: &mut Floor,
     lagging: &mut [bool],
     slots: &[Slot],
     stamps: &Stamps,
     looks: &mut Steps<L>,
 )
     requires room { length slots.now ≤ length lagging.old }
-    requires rising { IsRising 0 tops.old }
-    ensures raised { tops.new ≡ raise tops.old stamps.now }
-    ensures rising { IsRising 0 tops.new }
+    requires rising { IsRising 0 greatest_clocks.old }
+    ensures raised { greatest_clocks.new ≡ raise greatest_clocks.old stamps.now }
+    ensures rising { IsRising 0 greatest_clocks.new }
     ensures followed { (place : ℕ) → place < length slots.now →
-        IsFollowed tops.old (slice_index_or lagging.old place false) (slice_index_or (head_stamps slots.now) place None) →
-        IsFollowed tops.new (slice_index_or lagging.new place false) (slice_index_or (head_stamps slots.now) place None) }
+        IsFollowed greatest_clocks.old (slice_index_or lagging.old place false) (slice_index_or (head_stamps slots.now) place None) →
+        IsFollowed greatest_clocks.new (slice_index_or lagging.new place false) (slice_index_or (head_stamps slots.now) place None) }
     ensures stamps { AreStamps stamps.now }
     ensures looks { looks.new ≡ looks.old + length stamps.now }
 {
     for (key, clock) in stamps.iter() {
         looks.tick();
-        raise_key(tops, lagging, slots, key, clock);
+        raise_key(greatest_clocks, lagging, slots, key, clock);
     }
 }
 
 // Whether the head of a slot lags.
-pub(crate) fn head_lags<L: Ledger>(tops: &Floor, slot: &Slot, looks: &mut Steps<L>) -> bool
-    ensures flag { result ≡ lags tops.now (option_map (λ head. head.emission.stamps) slot.now.head) }
+pub(crate) fn head_lags<L: Ledger>(
+    greatest_clocks: &Floor,
+    slot: &Slot,
+    looks: &mut Steps<L>,
+) -> bool
+    ensures flag { result ≡ lags greatest_clocks.now (option_map (λ head. head.emission.stamps) slot.now.head) }
     ensures rising { IsRisingHead (option_map (λ head. head.emission.stamps) slot.now.head) }
     ensures looks { looks.new ≤ looks.old + keys_in slot.now.head }
 {
     match slot.head() {
         None => false,
-        Some(head) => first_lag(tops, &head.stamps, looks).is_some(),
+        Some(head) => first_lag(greatest_clocks, &head.stamps, looks).is_some(),
     }
 }
 
 // The flag of each slot's head.
-pub(crate) fn flags<L: Ledger>(tops: &Floor, slots: &[Slot], looks: &mut Steps<L>) -> [bool; 16]
+pub(crate) fn flags<L: Ledger>(
+    greatest_clocks: &Floor,
+    slots: &[Slot],
+    looks: &mut Steps<L>,
+) -> [bool; 16]
     requires { length slots.now ≤ 16 }
     ensures places { length result ≡ 16 }
-    ensures flags { (place : ℕ) → place < length slots.now → slice_index_or result place false ≡ lags tops.now (slice_index_or (head_stamps slots.now) place None) }
+    ensures flags { (place : ℕ) → place < length slots.now → slice_index_or result place false ≡ lags greatest_clocks.now (slice_index_or (head_stamps slots.now) place None) }
     ensures rising { (place : ℕ) → place < length slots.now → IsRisingHead (slice_index_or (head_stamps slots.now) place None) }
     ensures looks { looks.new ≤ looks.old + head_keys slots.now }
 {
     let mut lagging = [false; 16];
     for place in 0..slots.len() {
-        lagging[place] = head_lags(tops, &slots[place], looks);
+        lagging[place] = head_lags(greatest_clocks, &slots[place], looks);
     }
     lagging
 }

@@ -13,42 +13,52 @@ use svc_value::{Clock, ServiceId, Steps};
 
 // The keys on which the head at a place has a greatest clock that is above the floor's.
 pub(crate) fn held_at<L: Ledger>(
-    tops: &Floor,
+    greatest_clocks: &Floor,
     floor: &Floor,
     slots: &[Slot],
     place: usize,
     looks: &mut Steps<L>,
 ) -> KeySet
     requires { place < length slots.now }
-    ensures held { AreHeld tops.now floor.now (slice_index_or (head_stamps slots.now) place None) result }
+    ensures held { AreHeld greatest_clocks.now floor.now (slice_index_or (head_stamps slots.now) place None) result }
     ensures few { length result ≤ keys_in (slot_in slots.now place).head }
     ensures looks { looks.new ≡ looks.old + keys_in (slot_in slots.now place).head }
 {
-    held_by(tops, floor, &slots[place], looks)
+    held_by(greatest_clocks, floor, &slots[place], looks)
 }
 
 // Those of a slot's head.
-fn held_by<L: Ledger>(tops: &Floor, floor: &Floor, slot: &Slot, looks: &mut Steps<L>) -> KeySet
-    ensures held { AreHeld tops.now floor.now (option_map (λ head. head.emission.stamps) slot.now.head) result }
+fn held_by<L: Ledger>(
+    greatest_clocks: &Floor,
+    floor: &Floor,
+    slot: &Slot,
+    looks: &mut Steps<L>,
+) -> KeySet
+    ensures held { AreHeld greatest_clocks.now floor.now (option_map (λ head. head.emission.stamps) slot.now.head) result }
     ensures few { length result ≤ keys_in slot.now.head }
     ensures looks { looks.new ≡ looks.old + keys_in slot.now.head }
 {
     match slot.head() {
         None => KeySet::new(),
-        Some(head) => held_in(tops, floor, &head.stamps, looks),
+        Some(head) => held_in(greatest_clocks, floor, &head.stamps, looks),
     }
 }
 
 // Those of some stamps.
-fn held_in<L: Ledger>(tops: &Floor, floor: &Floor, stamps: &Stamps, looks: &mut Steps<L>) -> KeySet
-    ensures held { AreHeld tops.now floor.now (Some stamps.now) result }
+fn held_in<L: Ledger>(
+    greatest_clocks: &Floor,
+    floor: &Floor,
+    stamps: &Stamps,
+    looks: &mut Steps<L>,
+) -> KeySet
+    ensures held { AreHeld greatest_clocks.now floor.now (Some stamps.now) result }
     ensures few { length result ≤ length stamps.now }
     ensures looks { looks.new ≡ looks.old + length stamps.now }
 {
     let mut held = KeySet::new();
     for (key, clock) in stamps.iter() {
         looks.tick();
-        if is_above(floor, key, clock) && !is_below(tops, key, clock) {
+        if is_above(floor, key, clock) && !is_below(greatest_clocks, key, clock) {
             held.push(key);
         }
     }
@@ -58,37 +68,47 @@ fn held_in<L: Ledger>(tops: &Floor, floor: &Floor, stamps: &Stamps, looks: &mut 
 // Whether the head at a place is below a greatest clock on one of these keys, or there is no head.
 pub(crate) fn falls_at<L: Ledger>(
     held: KeySet,
-    tops: &Floor,
+    greatest_clocks: &Floor,
     slots: &[Slot],
     place: usize,
     looks: &mut Steps<L>,
 ) -> bool
     requires { place < length slots.now }
-    ensures falls { IsFalse result ↔ AreReached tops.now held (slice_index_or (head_stamps slots.now) place None) }
+    ensures falls { IsFalse result ↔ AreReached greatest_clocks.now held (slice_index_or (head_stamps slots.now) place None) }
     ensures looks { looks.new ≤ looks.old + length held }
 {
-    falls_by(held, tops, &slots[place], looks)
+    falls_by(held, greatest_clocks, &slots[place], looks)
 }
 
 // The same of a slot's head.
-fn falls_by<L: Ledger>(held: KeySet, tops: &Floor, slot: &Slot, looks: &mut Steps<L>) -> bool
-    ensures falls { IsFalse result ↔ AreReached tops.now held (option_map (λ head. head.emission.stamps) slot.now.head) }
+fn falls_by<L: Ledger>(
+    held: KeySet,
+    greatest_clocks: &Floor,
+    slot: &Slot,
+    looks: &mut Steps<L>,
+) -> bool
+    ensures falls { IsFalse result ↔ AreReached greatest_clocks.now held (option_map (λ head. head.emission.stamps) slot.now.head) }
     ensures looks { looks.new ≤ looks.old + length held }
 {
     match slot.head() {
         None => true,
-        Some(head) => falls_in(held, tops, &head.stamps, looks),
+        Some(head) => falls_in(held, greatest_clocks, &head.stamps, looks),
     }
 }
 
 // Whether these stamps are below a greatest clock on one of these keys.
-fn falls_in<L: Ledger>(held: KeySet, tops: &Floor, stamps: &Stamps, looks: &mut Steps<L>) -> bool
-    ensures falls { IsFalse result ↔ AreReached tops.now held (Some stamps.now) }
+fn falls_in<L: Ledger>(
+    held: KeySet,
+    greatest_clocks: &Floor,
+    stamps: &Stamps,
+    looks: &mut Steps<L>,
+) -> bool
+    ensures falls { IsFalse result ↔ AreReached greatest_clocks.now held (Some stamps.now) }
     ensures looks { looks.new ≤ looks.old + length held }
 {
     for key in held {
         looks.tick();
-        if falls_on(tops, key, stamps) {
+        if falls_on(greatest_clocks, key, stamps) {
             return true;
         }
     }
@@ -96,8 +116,8 @@ fn falls_in<L: Ledger>(held: KeySet, tops: &Floor, stamps: &Stamps, looks: &mut 
 }
 
 // Whether the stamps are below the greatest clock of a key.
-fn falls_on(tops: &Floor, key: ServiceId, stamps: &Stamps) -> bool
-    ensures { result ≡ nat_lt (clock_of stamps.now key) (clock_of tops.now key) }
+fn falls_on(greatest_clocks: &Floor, key: ServiceId, stamps: &Stamps) -> bool
+    ensures { result ≡ nat_lt (clock_of stamps.now key) (clock_of greatest_clocks.now key) }
 {
-    is_below(tops, key, stamps.get(key).unwrap_or(Clock(0)))
+    is_below(greatest_clocks, key, stamps.get(key).unwrap_or(Clock(0)))
 }

@@ -1,19 +1,19 @@
 // What the turn table looks for, kept up to date.
 ghost use Rattle.std.specs.Prelude.{◌≡◌, ◌+◌, ◌-◌, ◌*◌, ◌^◌, ◌<◌, ◌≤◌, ◌⊎◌, true, None, Some, [], length, take, slice_index_or, slice_set, IfSome, IfNone};
 ghost use Rattle.propagation.specs.Stamps.{IsRising};
-ghost use Rattle.service_machine.specs.States.{has_next, advanced, number_of, raise as raised};
-ghost use Rattle.service_machine.specs.Turning.{choice as chosen, head_lag, lagging as first_that_lags, tops as greatest};
+ghost use Rattle.service_machine.specs.States.{has_next, advanced, number_at_head, raise as raised};
+ghost use Rattle.service_machine.specs.Turning.{choice as chosen, head_lag, lagging as first_that_lags, greatest_clocks as greatest};
 ghost use Rattle.pred_queue.specs.Capped.{capped};
 ghost use Rattle.stamp_match.specs.Falling.{AreReached, NoneFalls};
 ghost use Rattle.stamp_match.specs.Kept.{IsMatcherOf, IsKept, head_stamps, slot_in};
 ghost use Rattle.stamp_match.specs.Looks.{head_keys, keys_in, named_keys};
-ghost use Rattle.stamp_match.specs.Named.{named, IsAmong};
+ghost use Rattle.stamp_match.specs.Named.{turn_of, IsAmong};
 ghost use Rattle.stamp_match.specs.Moved.{IsRaised, IsMoved, Leads};
 
 use crate::Choice;
 use crate::following::{flags, head_lags, raise_keys};
 use crate::held::{falls_at, held_at};
-use crate::slots::{first_headless, first_waiting, tops};
+use crate::slots::{first_headless, first_waiting, greatest_clocks};
 use crate::walk::first_lag;
 use pred_queue::Slot;
 use stamp_clock::{Floor, KeySet, Stamps};
@@ -25,7 +25,7 @@ use svc_value::{ServiceId, Steps};
 /// and which heads lag. It rests on the floor and on the stamps of the heads alone, and holds no memory of its own.
 #[derive(Clone, Copy, Debug)]
 pub struct Matcher {
-    tops: Floor,
+    greatest_clocks: Floor,
     lagging: [bool; 16],
 }
 
@@ -35,7 +35,7 @@ impl Matcher {
         ensures { IsKept [] [] result }
     {
         Matcher {
-            tops: Floor::new(),
+            greatest_clocks: Floor::new(),
             lagging: [false; 16],
         }
     }
@@ -67,17 +67,20 @@ impl Matcher {
         ensures matcher { IsMatcherOf slots.now floor.now result }
         ensures looks { looks.new ≤ looks.old + 2 * head_keys slots.now }
     {
-        let tops = tops(slots, floor, looks);
-        let lagging = flags(&tops, slots, looks);
-        Matcher { tops, lagging }
+        let greatest_clocks = greatest_clocks(slots, floor, looks);
+        let lagging = flags(&greatest_clocks, slots, looks);
+        Matcher {
+            greatest_clocks,
+            lagging,
+        }
     }
 
     // The first slot whose head lags.
     fn first_lagging(&self, slots: &[Slot], floor: &Floor) -> Option<usize>
         requires { IsMatcherOf slots.now floor.now self.now }
-        ensures tops { first_that_lags (greatest slots.now floor.now) slots.now ≡ first_that_lags self.now.tops slots.now }
-        ensures some { IfSome result (Leads self.now.tops slots.now) }
-        ensures none { IfNone result (first_that_lags self.now.tops slots.now ≡ None) }
+        ensures greatest_clocks { first_that_lags (greatest slots.now floor.now) slots.now ≡ first_that_lags self.now.greatest_clocks slots.now }
+        ensures some { IfSome result (Leads self.now.greatest_clocks slots.now) }
+        ensures none { IfNone result (first_that_lags self.now.greatest_clocks slots.now ≡ None) }
     {
         for place in 0..slots.len() {
             if self.lagging[place] {
@@ -89,11 +92,11 @@ impl Matcher {
 
     // The least key on which the head of a slot lags.
     fn key_of<L: Ledger>(&self, slot: &Slot, looks: &mut Steps<L>) -> Option<ServiceId>
-        ensures key { result ≡ head_lag self.now.tops slot.now.head }
+        ensures key { result ≡ head_lag self.now.greatest_clocks slot.now.head }
         ensures looks { looks.new ≤ looks.old + keys_in slot.now.head }
     {
         let head = slot.head()?;
-        first_lag(&self.tops, &head.stamps, looks)
+        first_lag(&self.greatest_clocks, &head.stamps, looks)
     }
 
     /// What `choose` answers for these slots, this floor and `due`, where the matcher is theirs. It looks at no clock but those
@@ -106,7 +109,7 @@ impl Matcher {
         looks: &mut Steps<L>,
     ) -> Choice
         requires { IsMatcherOf slots.now floor.now self.now }
-        ensures table { named slots.now result ≡ chosen slots.now floor.now due }
+        ensures table { turn_of slots.now result ≡ chosen slots.now floor.now due }
         ensures slot { IsAmong (length slots.now) result }
         ensures looks { looks.new ≤ looks.old + named_keys slots.now result }
     {
@@ -150,7 +153,13 @@ impl Matcher {
         ensures looks { looks.new ≡ looks.old + length stamps.now }
     {
         let _ = floor.raise(stamps);
-        raise_keys(&mut self.tops, &mut self.lagging, slots, stamps, looks);
+        raise_keys(
+            &mut self.greatest_clocks,
+            &mut self.lagging,
+            slots,
+            stamps,
+            looks,
+        );
     }
 
     // Takes the clocks of the head at a place.
@@ -158,7 +167,7 @@ impl Matcher {
         requires place { place < length slots.now }
         requires few { length slots.now ≤ 16 }
         requires places { length self.old.lagging ≡ 16 }
-        requires rising { IsRising 0 self.old.tops }
+        requires rising { IsRising 0 self.old.greatest_clocks }
         ensures raised { IsRaised (head_stamps slots.now) place self.old self.new }
         ensures looks { looks.new ≡ looks.old + keys_in (slot_in slots.now place).head }
     {
@@ -167,7 +176,7 @@ impl Matcher {
             return;
         };
         raise_keys(
-            &mut self.tops,
+            &mut self.greatest_clocks,
             &mut self.lagging,
             slots,
             &head.stamps,
@@ -180,12 +189,12 @@ impl Matcher {
         requires place { place < length slots.now }
         requires few { length slots.now ≤ 16 }
         requires places { length self.old.lagging ≡ 16 }
-        requires rising { IsRising 0 self.old.tops }
+        requires rising { IsRising 0 self.old.greatest_clocks }
         ensures moved { IsMoved (head_stamps slots.now) place self.old self.new }
         ensures looks { looks.new ≤ looks.old + 2 * keys_in (slot_in slots.now place).head }
     {
         self.raise_head(slots, place, looks);
-        self.lagging[place] = head_lags(&self.tops, &slots[place], looks);
+        self.lagging[place] = head_lags(&self.greatest_clocks, &slots[place], looks);
     }
 
     /// The next value of the slot at `place`, which has one, becomes its head, with one step of `moves`, and the matcher, which
@@ -207,7 +216,7 @@ impl Matcher {
         requires place { place < count }
         requires next { has_next (slot_in slots.old place) ≡ true }
         requires matcher { IsMatcherOf (take count slots.old) floor.now self.old }
-        ensures advanced { number_of (slot_in slots.old place).head < 2 ^ 64 - 1 → slots.new ≡ slice_set slots.old place (advanced (slot_in slots.old place)) }
+        ensures advanced { number_at_head (slot_in slots.old place).head < 2 ^ 64 - 1 → slots.new ≡ slice_set slots.old place (advanced (slot_in slots.old place)) }
         ensures slots { slots.new ≡ slice_set slots.old place (capped (advanced (slot_in slots.old place))) }
         ensures matcher { IsMatcherOf (take count slots.new) floor.now self.new }
         ensures moves { moves.new ≡ moves.old + 1 }
@@ -215,7 +224,7 @@ impl Matcher {
             looks.new ≤ looks.old + 2 * keys_in (slot_in slots.old place).head + 2 * keys_in (slot_in slots.new place).head }
         ensures most { looks.new ≤ looks.old + 2 * keys_in (slot_in slots.old place).head + 2 * head_keys (take count slots.new) }
     {
-        let held = held_at(&self.tops, floor, &slots[..count], place, looks);
+        let held = held_at(&self.greatest_clocks, floor, &slots[..count], place, looks);
         let slot = &mut slots[place];
         slot.advance(moves);
         self.renew(held, &slots[..count], place, floor, looks);
@@ -233,13 +242,13 @@ impl Matcher {
         requires place { place < length slots.now }
         requires few { length slots.now ≤ 16 }
         requires places { length self.old.lagging ≡ 16 }
-        requires tops { IsRising 0 self.old.tops }
-        ensures matcher { IsMatcherOf slots.now floor.now self.new ⊎ (AreReached self.old.tops held (slice_index_or (head_stamps slots.now) place None) × IsMoved (head_stamps slots.now) place self.old self.new) }
-        ensures looks { AreReached self.old.tops held (slice_index_or (head_stamps slots.now) place None) →
+        requires greatest_clocks { IsRising 0 self.old.greatest_clocks }
+        ensures matcher { IsMatcherOf slots.now floor.now self.new ⊎ (AreReached self.old.greatest_clocks held (slice_index_or (head_stamps slots.now) place None) × IsMoved (head_stamps slots.now) place self.old self.new) }
+        ensures looks { AreReached self.old.greatest_clocks held (slice_index_or (head_stamps slots.now) place None) →
             looks.new ≤ looks.old + length held + 2 * keys_in (slot_in slots.now place).head }
         ensures most { looks.new ≤ looks.old + length held + 2 * head_keys slots.now }
     {
-        if falls_at(held, &self.tops, slots, place, looks) {
+        if falls_at(held, &self.greatest_clocks, slots, place, looks) {
             *self = Matcher::found(slots, floor, looks);
         } else {
             self.follow(slots, place, looks);

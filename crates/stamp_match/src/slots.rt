@@ -1,6 +1,6 @@
 // Walks over slots.
 ghost use Rattle.std.specs.Prelude.{◌≡◌, ◌+◌, ◌≤◌, ◌<◌, length, slice_get, option_map, IfSome, IfNone, None};
-ghost use Rattle.service_machine.specs.Turning.{headless, lagging, waiting, tops as greatest};
+ghost use Rattle.service_machine.specs.Turning.{headless, lagging, waiting, greatest_clocks as greatest};
 ghost use Rattle.stamp_clock.specs.Beside.{AreStamps};
 ghost use Rattle.stamp_match.specs.Looks.{head_keys};
 
@@ -41,38 +41,42 @@ pub(crate) fn first_waiting(slots: &[Slot]) -> Option<usize>
 }
 
 // For each key the greatest clock of the floor and the heads.
-pub(crate) fn tops<L: Ledger>(slots: &[Slot], floor: &Floor, looks: &mut Steps<L>) -> Floor
+pub(crate) fn greatest_clocks<L: Ledger>(
+    slots: &[Slot],
+    floor: &Floor,
+    looks: &mut Steps<L>,
+) -> Floor
     ensures greatest { result ≡ greatest slots.now floor.now }
     ensures stamps { AreStamps floor.now }
     ensures looks { looks.new ≡ looks.old + head_keys slots.now }
 {
-    let Ok(mut tops) = floor.copy() else {
+    let Ok(mut greatest_clocks) = floor.copy() else {
         unreachable!();
     };
     for place in 0..slots.len() {
         let slot = &slots[place];
         if let Some(head) = slot.head() {
-            raise_tops(&mut tops, &head.stamps, looks);
+            raise_tops(&mut greatest_clocks, &head.stamps, looks);
         }
     }
-    tops
+    greatest_clocks
 }
 
 // The first slot whose head lags, with the least key on which it does.
 pub(crate) fn first_lagging<L: Ledger>(
     slots: &[Slot],
-    tops: &Floor,
+    greatest_clocks: &Floor,
     looks: &mut Steps<L>,
 ) -> Option<(usize, ServiceId)>
-    ensures some { IfSome result (λ found. lagging tops.now slots.now ≡ option_map (λ slot. (slot, found.1)) (slice_get slots.now found.0)) }
+    ensures some { IfSome result (λ found. lagging greatest_clocks.now slots.now ≡ option_map (λ slot. (slot, found.1)) (slice_get slots.now found.0)) }
     ensures within { IfSome result (λ found. found.0 < length slots.now) }
-    ensures none { IfNone result (lagging tops.now slots.now ≡ None) }
+    ensures none { IfNone result (lagging greatest_clocks.now slots.now ≡ None) }
     ensures looks { looks.new ≤ looks.old + head_keys slots.now }
 {
     for place in 0..slots.len() {
         let slot = &slots[place];
         if let Some(head) = slot.head()
-            && let Some(key) = first_lag(tops, &head.stamps, looks)
+            && let Some(key) = first_lag(greatest_clocks, &head.stamps, looks)
         {
             return Some((place, key));
         }

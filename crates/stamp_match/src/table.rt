@@ -2,10 +2,10 @@
 ghost use Rattle.std.specs.Prelude.{◌≡◌, ◌+◌, ◌*◌, ◌≤◌, length};
 ghost use Rattle.service_machine.specs.Turning.{choice};
 ghost use Rattle.stamp_match.specs.Looks.{head_keys};
-ghost use Rattle.stamp_match.specs.Named.{named, IsAmong};
+ghost use Rattle.stamp_match.specs.Named.{turn_of, IsAmong};
 
 use crate::Choice;
-use crate::slots::{first_headless, first_lagging, first_waiting, tops};
+use crate::slots::{first_headless, first_lagging, first_waiting, greatest_clocks};
 use pred_queue::Slot;
 use stamp_clock::Floor;
 use std::sync::ledger::Ledger;
@@ -20,7 +20,7 @@ use svc_value::Steps;
 ///
 /// It takes one look for each comparison of a clock, at most twice as many as all heads have keys, and no memory.
 pub fn choose<L: Ledger>(slots: &[Slot], floor: &Floor, due: bool, looks: &mut Steps<L>) -> Choice
-    ensures table { named slots.now result ≡ choice slots.now floor.now due }
+    ensures table { turn_of slots.now result ≡ choice slots.now floor.now due }
     ensures slot { IsAmong (length slots.now) result }
     ensures looks { looks.new ≤ looks.old + 2 * head_keys slots.now }
 {
@@ -32,8 +32,8 @@ pub fn choose<L: Ledger>(slots: &[Slot], floor: &Floor, due: bool, looks: &mut S
             Choice::Empty(place)
         };
     }
-    let tops = tops(slots, floor, looks);
-    if let Some((place, key)) = first_lagging(slots, &tops, looks) {
+    let greatest_clocks = greatest_clocks(slots, floor, looks);
+    if let Some((place, key)) = first_lagging(slots, &greatest_clocks, looks) {
         let slot = &slots[place];
         return if slot.has_next() {
             Choice::Advance(place)

@@ -10,29 +10,33 @@ use std::sync::ledger::Ledger;
 use svc_value::{Clock, ServiceId, Steps};
 
 // Takes for each key the greater clock of the two.
-pub(crate) fn raise_tops<L: Ledger>(tops: &mut Floor, stamps: &Stamps, looks: &mut Steps<L>)
-    ensures raised { tops.new ≡ raise tops.old stamps.now }
+pub(crate) fn raise_tops<L: Ledger>(
+    greatest_clocks: &mut Floor,
+    stamps: &Stamps,
+    looks: &mut Steps<L>,
+)
+    ensures raised { greatest_clocks.new ≡ raise greatest_clocks.old stamps.now }
     ensures looks { looks.new ≡ looks.old + length stamps.now }
 {
     for (key, clock) in stamps.iter() {
         looks.tick();
-        tops.raise_one(key, clock);
+        greatest_clocks.raise_one(key, clock);
     }
 }
 
 // The least key on which the stamps lag.
 pub(crate) fn first_lag<L: Ledger>(
-    tops: &Floor,
+    greatest_clocks: &Floor,
     stamps: &Stamps,
     looks: &mut Steps<L>,
 ) -> Option<ServiceId>
-    ensures key { result ≡ lag tops.now stamps.now }
+    ensures key { result ≡ lag greatest_clocks.now stamps.now }
     ensures stamps { AreStamps stamps.now }
     ensures looks { looks.new ≤ looks.old + length stamps.now }
 {
     for (key, clock) in stamps.iter() {
         looks.tick();
-        if is_below(tops, key, clock) {
+        if is_below(greatest_clocks, key, clock) {
             return Some(key);
         }
     }
@@ -40,10 +44,10 @@ pub(crate) fn first_lag<L: Ledger>(
 }
 
 // Whether the clock of a key is below its greatest one.
-pub(crate) fn is_below(tops: &Floor, key: ServiceId, clock: Clock) -> bool
-    ensures { result ≡ nat_lt clock (clock_of tops.now key) }
+pub(crate) fn is_below(greatest_clocks: &Floor, key: ServiceId, clock: Clock) -> bool
+    ensures { result ≡ nat_lt clock (clock_of greatest_clocks.now key) }
 {
-    match tops.get(key) {
+    match greatest_clocks.get(key) {
         Some(top) => clock < top,
         None => false,
     }

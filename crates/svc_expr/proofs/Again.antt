@@ -13,7 +13,7 @@ use Rattle.svc_expr.specs.Tree.{Tree, number, words, given, negated, denied, pai
 use Rattle.svc_expr.specs.Types.{mentions, name_count}
 use Rattle.svc_expr.specs.Canonical.{has_bracket, name_at, canonical_text, IsWritable, IsWithin, IsInOrder}
 use Rattle.svc_expr.specs.Grammar.{with_names, names_among, IsReading}
-use Rattle.svc_expr.proofs.NameLemmas.{Names, Apart, apart}
+use Rattle.svc_expr.proofs.NameLemmas.{Names, AreDistinct, apart}
 use Rattle.svc_expr.proofs.Spelled.{sign_of, in_brackets_if, canon, room, to_whole, spells}
 use Rattle.svc_expr.proofs.Written.{written}
 
@@ -96,7 +96,7 @@ writable names greatest_member h w = tt
 pub read_again : (names : Names) (e : Tree) → All IsName names → name_count e ≤ length names → IsInOrder names e → IsWithin e → IsSmall e → IsReading (canonical_text names e) e names
 read_again names e are count order within small =
     let w = writable names e count within in
-    let each : Apart names = subst Apart order (apart [] (map (name_at names) (mentions e)) (λ k l. absurd (omega arith))) in (
+    let each : AreDistinct names = subst AreDistinct order (apart [] (map (name_at names) (mentions e)) (λ k l. absurd (omega arith))) in (
       canon names e [],
       written names e (λ k l. All-get_or IsName names k [] l are) w,
       (

@@ -12,7 +12,7 @@ use Rattle.svc_expr.specs.Tree.{Tree, tree_of, nodes, depth, IsSmall}
 use Rattle.svc_expr.specs.Types.{name_count}
 use Rattle.svc_expr.specs.Grammar.{with_names, names_among, Spells, IsExpression}
 use Rattle.svc_expr.specs.Reading.{Part, Read, naming, level_at, inner, all_read}
-use Rattle.svc_expr.specs.Small.{fit, reading, Answers}
+use Rattle.svc_expr.specs.SizedExpr.{fit, reading, Answers}
 use Rattle.svc_expr.proofs.Sizes.{keeps_all, keeps_small}
 use Rattle.svc_expr.proofs.Sound.{some_is, is_sound}
 use Rattle.svc_expr.proofs.Complete.{is_complete}

@@ -11,7 +11,7 @@ use Rattle.svc_value.specs.declared.value.Value.TheVariants.{Int, Words, Bad}
 use Rattle.svc_expr.specs.declared.expr.Op.{Op}
 use Rattle.svc_expr.specs.declared.expr.Op.TheVariants.{Add, Sub, Mul, Div, Rem, Join, Eq, Ne, Lt, Le, Gt, Ge, And, Or}
 use Rattle.svc_expr.specs.Tree.{Tree, number, words, given, negated, denied, pair, choice, len_of, number_of, text_of, sum_of_members, count_of_members, least_member, greatest_member}
-use Rattle.svc_expr.specs.Meaning.{untyped, is_i64, exact, is_true, quotient, remainder, compared, of_numbers, is_join, of_pair, of_number, of_text, chosen, first_fault, numbers_in, fault_or, total, least, greatest, meaning, has_text, IsNoText}
+use Rattle.svc_expr.specs.Meaning.{untyped, is_i64, exact, is_true, quotient, remainder, compared, of_numbers, is_join, of_pair, of_number, of_text, branch, first_fault, numbers_in, fault_or, total, least, greatest, meaning, has_text, IsNoText}
 
 exact_is : (z : ℤ) → IsNoText (exact z)
 exact_is z = elim (is_i64 z) as (λ b. IsNoText (if b then Int z else Bad Overflow)) [ true ↦ tt | false ↦ tt ]
@@ -68,7 +68,7 @@ of_text_is f (Int z) h = tt
 of_text_is f (Words text) h = absurd h
 of_text_is f (Bad fault) h = tt
 
-chosen_is : (c x y : Value) → IsNoText x → IsNoText y → IsNoText (chosen c x y)
+chosen_is : (c x y : Value) → IsNoText x → IsNoText y → IsNoText (branch c x y)
 chosen_is (Int z) x y g h = elim (is_true z) as (λ b. IsNoText (if b then x else y)) [ true ↦ g | false ↦ h ]
 chosen_is (Words text) x y g h = tt
 chosen_is (Bad fault) x y g h = tt

@@ -18,10 +18,10 @@ use Rattle.svc_expr.specs.declared.level.Aggregate.{Aggregate}
 use Rattle.svc_expr.specs.declared.level.Aggregate.TheVariants as aggregate
 use Rattle.svc_expr.specs.Tree.{Tree, number, words, given, negated, denied, pair, choice, len_of, number_of, text_of, sum_of_members, count_of_members, least_member, greatest_member, nodes}
 use Rattle.svc_expr.specs.Types.{name_count, mentions}
-use Rattle.svc_expr.specs.Grammar.{operator, at_level, joins, formed, aggregated, place_of, with_names, names_among, Spells, whole_number, negative_number, quoted_text, named, in_brackets, call, member_call, negation, joined, comparison, denial, if_then_else, as_tighter}
+use Rattle.svc_expr.specs.Grammar.{operator, at_level, joins, formed, aggregated, name_index, with_names, names_among, Spells, whole_number, negative_number, quoted_text, named, in_brackets, call, member_call, negation, joined, comparison, denial, if_then_else, as_tighter}
 use Rattle.svc_expr.specs.Reading.{naming}
 use Rattle.svc_expr.specs.Canonical.{name_at}
-use Rattle.svc_expr.specs.Small.{fit}
+use Rattle.svc_expr.specs.SizedExpr.{fit}
 
 abbrev pub Names : Type 0
 Names = List (List ℕ)
@@ -30,7 +30,7 @@ Names = List (List ℕ)
 pub with_more : (names more : Names) → (rest : Names) × (with_names names more ≡ names ++ rest)
 with_more names [] = ([], sym (append-nil names))
 with_more names (name ∷ more) =
-    elim (nat_lt (place_of names name) (length names)) as (λ b. (rest : Names) × (with_names (if b then names else names ++ name ∷ []) more ≡ names ++ rest)) [
+    elim (nat_lt (name_index names name) (length names)) as (λ b. (rest : Names) × (with_names (if b then names else names ++ name ∷ []) more ≡ names ++ rest)) [
       | true ↦ with_more names more
       | false ↦ let r = with_more (names ++ name ∷ []) more in (name ∷ r.0, r.1 ∙ append_assoc names (name ∷ []) r.0)
     ]
@@ -40,15 +40,15 @@ pub full : (names more : Names) (k : ℕ) → k ≤ length names → take k (wit
 full names more k h = let r = with_more names more in ap (take k) r.1 ∙ take-append-le k names r.0 h
 
 -- one more name of a list
-pub added : (names : Names) (name : List ℕ) (more : Names) → length names ≤ place_of names name → take 256 (with_names (names ++ name ∷ []) more) ≡ take 256 (with_names names (name ∷ more))
-added names name more h = ap (λ (b : Bool). take 256 (with_names (if b then names else names ++ name ∷ []) more)) (sym (le-ltb (place_of names name) (length names) h))
+pub added : (names : Names) (name : List ℕ) (more : Names) → length names ≤ name_index names name → take 256 (with_names (names ++ name ∷ []) more) ≡ take 256 (with_names names (name ∷ more))
+added names name more h = ap (λ (b : Bool). take 256 (with_names (if b then names else names ++ name ∷ []) more)) (sym (le-ltb (name_index names name) (length names) h))
 
-pub known : (names : Names) (name : List ℕ) (more : Names) → place_of names name < length names → take 256 (with_names names more) ≡ take 256 (with_names names (name ∷ more))
-known names name more h = ap (λ (b : Bool). take 256 (with_names (if b then names else names ++ name ∷ []) more)) (sym (lt-ltb (place_of names name) (length names) h))
+pub known : (names : Names) (name : List ℕ) (more : Names) → name_index names name < length names → take 256 (with_names names more) ≡ take 256 (with_names names (name ∷ more))
+known names name more h = ap (λ (b : Bool). take 256 (with_names (if b then names else names ++ name ∷ []) more)) (sym (lt-ltb (name_index names name) (length names) h))
 
 pub filled : (names : Names) (name : List ℕ) (more : Names) → 256 ≤ length names → take 256 (with_names names more) ≡ take 256 (with_names names (name ∷ more))
 filled names name more h =
-    elim (nat_lt (place_of names name) (length names)) as (λ b. take 256 (with_names names more) ≡ take 256 (with_names (if b then names else names ++ name ∷ []) more)) [
+    elim (nat_lt (name_index names name) (length names)) as (λ b. take 256 (with_names names more) ≡ take 256 (with_names (if b then names else names ++ name ∷ []) more)) [
       | true ↦ refl
       | false ↦ full names more 256 h ∙ sym (full (names ++ name ∷ []) more 256 (omega (arith, length-append names (name ∷ []))) ∙ take-append-le 256 names (name ∷ []) h)
     ]
@@ -59,7 +59,7 @@ all_gathered names all ts i h g so_far = sym (take_all 256 names g) ∙ ap (λ (
 with_fewer : (names more : Names) → length (with_names names more) ≤ length names + length more
 with_fewer names [] = omega arith
 with_fewer names (name ∷ more) =
-    elim (nat_lt (place_of names name) (length names)) as (λ b. length (with_names (if b then names else names ++ name ∷ []) more) ≤ length names + length (name ∷ more)) [
+    elim (nat_lt (name_index names name) (length names)) as (λ b. length (with_names (if b then names else names ++ name ∷ []) more) ≤ length names + length (name ∷ more)) [
       | true ↦ let k = with_fewer names more in omega arith
       | false ↦ let k = with_fewer (names ++ name ∷ []) more in omega (arith, length-append names (name ∷ []))
     ]
@@ -74,10 +74,10 @@ prefix_take p (suc k) (x ∷ xs) =
       | false ↦ omega arith
     ]
 
-pub place_within : (names : Names) (name : List ℕ) → place_of names name ≤ length names
+pub place_within : (names : Names) (name : List ℕ) → name_index names name ≤ length names
 place_within [] name = omega arith
 place_within (other ∷ names) name =
-    elim (not (bytes_eq other name)) as (λ b. cond b (1 + place_of names name) 0 ≤ length (other ∷ names)) [
+    elim (not (bytes_eq other name)) as (λ b. cond b (1 + name_index names name) 0 ≤ length (other ∷ names)) [
       | true ↦ let h = place_within names name in omega arith
       | false ↦ omega arith
     ]
@@ -94,7 +94,7 @@ fit_given k m h =
 
 -- the first 256 names are enough for the names of a tree within the limits
 pub naming_taken : (names : Names) → naming fit (take 256 names) ≡ naming fit names
-naming_taken names = λ i name. fit_given (place_of (take 256 names) name) (place_of names name) (prefix_take (λ other. not (bytes_eq other name)) 256 names) i
+naming_taken names = λ i name. fit_given (name_index (take 256 names) name) (name_index names name) (prefix_take (λ other. not (bytes_eq other name)) 256 names) i
 
 mentions_formed : (f : Form) (a : Tree) → mentions (formed f a) ≡ mentions a
 mentions_formed form.Neg a = refl
@@ -150,7 +150,7 @@ name_count_is count_of_members = refl
 name_count_is least_member = refl
 name_count_is greatest_member = refl
 
-top_places : (names xs : Names) → top (map (place_of names) xs) ≤ length names + 1
+top_places : (names xs : Names) → top (map (name_index names) xs) ≤ length names + 1
 top_places names [] = omega arith
 top_places names (x ∷ xs) = omega (arith, place_within names x, top_places names xs)
 
@@ -168,7 +168,7 @@ join_is L t op ts h = let o = level_operator L (operator t) op h in operator_is 
 
 module _ (names : Names) where
   abbrev pub places : List Token → List ℕ
-  places ts = map (place_of names) (names_among ts)
+  places ts = map (name_index names) (names_among ts)
 
   two : (xs ys us vs rest : List ℕ) → xs ++ us ≡ vs → ys ++ rest ≡ us → (xs ++ ys) ++ rest ≡ vs
   two xs ys us vs rest f g = append_assoc xs ys rest ∙ ap (λ (l : List ℕ). xs ++ l) g ∙ f
@@ -185,10 +185,10 @@ module _ (names : Names) where
   spelled_mentions (negation s) = spelled_mentions s
   spelled_mentions (joined {L = L} {ts = ts} {us = us} {rest = rest} {t = t} {op = op} {a = a} {b = b} l h s u) =
       two (mentions a) (mentions b) (places us) (places ts) (places rest)
-      (ap (λ (l : Names). mentions a ++ map (place_of names) l) (sym (join_is L t op us h)) ∙ spelled_mentions s) (spelled_mentions u)
+      (ap (λ (l : Names). mentions a ++ map (name_index names) l) (sym (join_is L t op us h)) ∙ spelled_mentions s) (spelled_mentions u)
   spelled_mentions (comparison {ts = ts} {us = us} {rest = rest} {t = t} {op = op} {a = a} {b = b} h s u) =
       two (mentions a) (mentions b) (places us) (places ts) (places rest)
-      (ap (λ (l : Names). mentions a ++ map (place_of names) l) (sym (join_is Comparison t op us h)) ∙ spelled_mentions s) (spelled_mentions u)
+      (ap (λ (l : Names). mentions a ++ map (name_index names) l) (sym (join_is Comparison t op us h)) ∙ spelled_mentions s) (spelled_mentions u)
   spelled_mentions (denial s) = spelled_mentions s
   spelled_mentions (if_then_else {ts = ts} {us = us} {vs = vs} {rest = rest} {c = c} {a = a} {b = b} s u v) =
       two (mentions c ++ mentions a) (mentions b) (places vs) (places ts) (places rest)
@@ -203,7 +203,7 @@ module _ (names : Names) where
   few_names {ts = ts} {e = e} n s =
       let k = ap (λ (l : List ℕ). length l) (whole_mentions s) in
       let l = ap (λ (l : Names). length l) n in
-      omega (arith, few_mentions e, with_fewer [] (names_among ts), length-map (names_among ts) (place_of names))
+      omega (arith, few_mentions e, with_fewer [] (names_among ts), length-map (names_among ts) (name_index names))
 
   pub low_names : {L : Level} {d : ℕ} {ts : List Token} {e : Tree} → Spells names L d ts e [] → name_count e ≤ length names + 1
   low_names {ts = ts} {e = e} s =
@@ -211,13 +211,13 @@ module _ (names : Names) where
       omega (arith, name_count_is e, top_places names (names_among ts))
 
 -- names that stand once each: each is found at its place
-abbrev pub Apart : Names → Type 0
-Apart names = (k : ℕ) → k < length names → place_of names (name_at names k) ≡ k
+abbrev pub AreDistinct : Names → Type 0
+AreDistinct names = (k : ℕ) → k < length names → name_index names (name_at names k) ≡ k
 
-pub place_append : (names more : Names) (name : List ℕ) → place_of names name < length names → place_of (names ++ more) name ≡ place_of names name
+pub place_append : (names more : Names) (name : List ℕ) → name_index names name < length names → name_index (names ++ more) name ≡ name_index names name
 place_append [] more name h = absurd (omega arith)
 place_append (other ∷ names) more name h =
-    elim (not (bytes_eq other name)) as (λ b. cond b (1 + place_of names name) 0 < length (other ∷ names) → cond b (1 + place_of (names ++ more) name) 0 ≡ cond b (1 + place_of names name) 0) [
+    elim (not (bytes_eq other name)) as (λ b. cond b (1 + name_index names name) 0 < length (other ∷ names) → cond b (1 + name_index (names ++ more) name) 0 ≡ cond b (1 + name_index names name) 0) [
       | true ↦ λ g. let k = place_append names more name (omega arith) in omega arith
       | false ↦ λ g. refl
     ] h
@@ -226,30 +226,30 @@ pub same_bytes : (name : List ℕ) → bytes_eq name name ≡ true
 same_bytes [] = refl
 same_bytes (b ∷ name) = and_from (b == b) (bytes_eq name name) (eq-eqb b b refl) (same_bytes name)
 
-pub place_new : (names : Names) (name : List ℕ) → length names ≤ place_of names name → place_of (names ++ name ∷ []) name ≡ length names
+pub place_new : (names : Names) (name : List ℕ) → length names ≤ name_index names name → name_index (names ++ name ∷ []) name ≡ length names
 place_new [] name h = ap (λ (b : Bool). cond (not b) 1 0) (same_bytes name)
 place_new (other ∷ names) name h =
-    elim (not (bytes_eq other name)) as (λ b. length (other ∷ names) ≤ cond b (1 + place_of names name) 0 → cond b (1 + place_of (names ++ name ∷ []) name) 0 ≡ length (other ∷ names)) [
+    elim (not (bytes_eq other name)) as (λ b. length (other ∷ names) ≤ cond b (1 + name_index names name) 0 → cond b (1 + name_index (names ++ name ∷ []) name) 0 ≡ length (other ∷ names)) [
       | true ↦ λ g. let k = place_new names name (omega arith) in omega arith
       | false ↦ λ g. absurd (omega arith)
     ] h
 
-apart_more : (names : Names) (name : List ℕ) → Apart names → length names ≤ place_of names name → Apart (names ++ name ∷ [])
+apart_more : (names : Names) (name : List ℕ) → AreDistinct names → length names ≤ name_index names name → AreDistinct (names ++ name ∷ [])
 apart_more names name h g k l =
     let all = names ++ name ∷ [] in
     elim (cases_lt k (length names)) [
       | inl before ↦
           let at = h k before in
-          ap (place_of all) (get_or-append names (name ∷ []) [] k before) ∙ place_append names (name ∷ []) (name_at names k) (omega arith) ∙ at
+          ap (name_index all) (get_or-append names (name ∷ []) [] k before) ∙ place_append names (name ∷ []) (name_at names k) (omega arith) ∙ at
       | inr behind ↦
           let last : k ≡ length names = omega (arith, length-append names (name ∷ [])) in
-          ap (λ (n : ℕ). place_of all (name_at all n)) last ∙ ap (place_of all) (get_or-append_seam names name [] []) ∙ place_new names name g ∙ sym last
+          ap (λ (n : ℕ). name_index all (name_at all n)) last ∙ ap (name_index all) (get_or-append_seam names name [] []) ∙ place_new names name g ∙ sym last
     ]
 
-pub apart : (names more : Names) → Apart names → Apart (with_names names more)
+pub apart : (names more : Names) → AreDistinct names → AreDistinct (with_names names more)
 apart names [] h = h
 apart names (name ∷ more) h =
-    elim (cases_lt (place_of names name) (length names)) [
-      | inl l ↦ subst Apart (ap (λ (b : Bool). with_names (if b then names else names ++ name ∷ []) more) (sym (lt-ltb (place_of names name) (length names) l))) (apart names more h)
-      | inr g ↦ subst Apart (ap (λ (b : Bool). with_names (if b then names else names ++ name ∷ []) more) (sym (le-ltb (place_of names name) (length names) g))) (apart (names ++ name ∷ []) more (apart_more names name h g))
+    elim (cases_lt (name_index names name) (length names)) [
+      | inl l ↦ subst AreDistinct (ap (λ (b : Bool). with_names (if b then names else names ++ name ∷ []) more) (sym (lt-ltb (name_index names name) (length names) l))) (apart names more h)
+      | inr g ↦ subst AreDistinct (ap (λ (b : Bool). with_names (if b then names else names ++ name ∷ []) more) (sym (le-ltb (name_index names name) (length names) g))) (apart (names ++ name ∷ []) more (apart_more names name h g))
     ]

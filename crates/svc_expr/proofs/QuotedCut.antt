@@ -7,7 +7,7 @@ use Rattle.std.proofs.lemmas.Bool.{cases_lt, cases_eq, cases_Bool, ne_eqb}
 use Rattle.std.proofs.lemmas.Bool.Decides.{nat_tests}
 use Rattle.svc_token.specs.declared.token.Token.TheVariants.{Quoted}
 use Rattle.svc_token.specs.Cutting.{closing, quoted_at, front}
-use Rattle.svc_value.specs.Printed.{is_escaped, quoted_byte, quoted, hex_escape}
+use Rattle.svc_value.specs.Printed.{is_escaped, quoted_byte, between_quotes, hex_escape}
 use Rattle.svc_expr.proofs.Unquoted.{quoted_else}
 
 -- a byte that is neither a quote nor a backslash
@@ -69,12 +69,12 @@ take_front : (xs ys : List ℕ) → take (length xs) (xs ++ ys) ≡ xs
 take_front [] ys = refl
 take_front (x ∷ xs) ys = ap (λ (l : List ℕ). x ∷ l) (take_front xs ys)
 
-pub quoted_front : (text rest : List ℕ) → front (quoted text ++ rest) ≡ Some (Quoted (quoted text), length (quoted text))
+pub quoted_front : (text rest : List ℕ) → front (between_quotes text ++ rest) ≡ Some (Quoted (between_quotes text), length (between_quotes text))
 unfolding front quoted_at
 quoted_front text rest =
     let inside = flat_map quoted_byte text in
-    let count : 1 + length inside + 1 ≡ length (quoted text) = omega (arith, length-append inside (34 ∷ [])) in
-    ap (λ (l : List ℕ). option_map (λ n. (Quoted (take n (quoted text ++ rest)), n)) (closing 1 false l)) (append_assoc inside (34 ∷ []) rest)
-    ∙ ap (option_map (λ n. (Quoted (take n (quoted text ++ rest)), n))) (text_on 1 text rest)
-    ∙ ap (λ (n : ℕ). Some (Quoted (take n (quoted text ++ rest)), n)) count
-    ∙ ap (λ (l : List ℕ). Some (Quoted l, length (quoted text))) (take_front (quoted text) rest)
+    let count : 1 + length inside + 1 ≡ length (between_quotes text) = omega (arith, length-append inside (34 ∷ [])) in
+    ap (λ (l : List ℕ). option_map (λ n. (Quoted (take n (between_quotes text ++ rest)), n)) (closing 1 false l)) (append_assoc inside (34 ∷ []) rest)
+    ∙ ap (option_map (λ n. (Quoted (take n (between_quotes text ++ rest)), n))) (text_on 1 text rest)
+    ∙ ap (λ (n : ℕ). Some (Quoted (take n (between_quotes text ++ rest)), n)) count
+    ∙ ap (λ (l : List ℕ). Some (Quoted l, length (between_quotes text))) (take_front (between_quotes text) rest)

@@ -9,7 +9,7 @@ use Rattle.svc_expr.specs.Tree.{Tree, pair, choice, nodes, depth}
 use Rattle.svc_expr.specs.Types.{name_count}
 use Rattle.svc_expr.specs.Grammar.{formed}
 use Rattle.svc_expr.specs.Reading.{Part, formed_part, pair_part, choice_part}
-use Rattle.svc_expr.specs.Small.{fit}
+use Rattle.svc_expr.specs.SizedExpr.{fit}
 
 abbrev small : ℕ → ℕ → ℕ → Bool
 small n m l = nat_le n 128 && nat_le m 32 && nat_le l 256

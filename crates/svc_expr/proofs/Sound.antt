@@ -13,8 +13,8 @@ use Rattle.svc_expr.specs.declared.level.Form.{Form}
 use Rattle.svc_expr.specs.declared.level.Form.TheVariants as form
 use Rattle.svc_expr.specs.declared.level.Aggregate.{Aggregate}
 use Rattle.svc_expr.specs.Tree.{Tree, number, words, given, negated, denied, pair, choice}
-use Rattle.svc_expr.specs.Quoted.{unquoted}
-use Rattle.svc_expr.specs.Grammar.{tighter, joins, IsLeft, formed, aggregated, call_of, aggregate_of, place_of, Spells, whole_number, negative_number, quoted_text, named, in_brackets, call, member_call, negation, joined, comparison, denial, if_then_else, as_tighter}
+use Rattle.svc_expr.specs.Quoted.{quoted_meaning}
+use Rattle.svc_expr.specs.Grammar.{tighter, joins, IsLeft, formed, aggregated, call_of, aggregate_of, name_index, Spells, whole_number, negative_number, quoted_text, named, in_brackets, call, member_call, negation, joined, comparison, denial, if_then_else, as_tighter}
 use Rattle.svc_expr.specs.Reading.{naming, Part, Read, ◌>>=◌, formed_part, pair_part, choice_part, after_close, words_at, negative_at, aggregate_at, called_at, call_at, operand_at, unary_at, with_op, chain, chained, product_at, sum_at, compared_at, comparison_at, denial_at, conjunction_at, disjunction_at, else_at, then_at, whole_at, level_at, inner}
 use Rattle.svc_expr.proofs.Sizes.{Keeps}
 use Rattle.svc_expr.proofs.Unquoted.{read_is_literal}
@@ -71,7 +71,7 @@ module _ (keep : Tree → Part) (keeps : Keeps keep) (names : List (List ℕ)) w
         at_rest Operand d (Dash ∷ Number n ∷ rest) rest (number (neg_ℤ (pos n))) y (negative_number (leb-true n (2 ^ 63) g.0)) (keep (number (neg_ℤ (pos n)))) refl g.1
     negative_sound ts y h = absurd (cc)
 
-    words_sound : (o : Option (List ℕ)) (raw : List ℕ) (rest : List Token) (y : Pair) → unquoted raw ≡ o → words_at keep o rest ≡ Some y → Found Operand d (Quoted raw ∷ rest) y
+    words_sound : (o : Option (List ℕ)) (raw : List ℕ) (rest : List Token) (y : Pair) → quoted_meaning raw ≡ o → words_at keep o rest ≡ Some y → Found Operand d (Quoted raw ∷ rest) y
     words_sound (Some text) raw rest y q h = at_rest Operand d (Quoted raw ∷ rest) rest (words text) y (quoted_text (read_is_literal raw text q)) (keep (words text)) refl (some_is (keep (words text), rest) y h)
     words_sound None raw rest y q h = absurd (cc)
 
@@ -103,8 +103,8 @@ module _ (keep : Tree → Part) (keeps : Keeps keep) (names : List (List ℕ)) w
         let g = guarded (nat_lt n (2 ^ 63)) (keep (number (pos n)), rest) y h in
         at_rest Operand d (Number n ∷ rest) rest (number (pos n)) y (whole_number (ltb-true n (2 ^ 63) g.0)) (keep (number (pos n))) refl g.1
     operand_sound (Dash ∷ ts) y h = negative_sound ts y h
-    operand_sound (Quoted raw ∷ rest) y h = words_sound (unquoted raw) raw rest y refl h
-    operand_sound (Name name ∷ rest) y h = at_rest Operand d (Name name ∷ rest) rest (given (place_of names name)) y named (keep (given (place_of names name))) refl (some_is (keep (given (place_of names name)), rest) y h)
+    operand_sound (Quoted raw ∷ rest) y h = words_sound (quoted_meaning raw) raw rest y refl h
+    operand_sound (Name name ∷ rest) y h = at_rest Operand d (Name name ∷ rest) rest (given (name_index names name)) y named (keep (given (name_index names name))) refl (some_is (keep (given (name_index names name)), rest) y h)
     operand_sound (Open ∷ ts) y h =
         let b = bind_some ((inner keep (naming keep names) d).enter Whole ts) (λ x. after_close x.0 x.1) y h in
         let c = closes b.0.0 b.0.1 y b.2 in

@@ -4,7 +4,7 @@ use Rattle.std.specs.Prelude.{pos, negsuc}
 use Rattle.svc_token.specs.declared.keyword.Keyword.TheVariants as keyword
 use Rattle.svc_token.specs.declared.token.Token.{Token}
 use Rattle.svc_token.specs.declared.token.Token.TheVariants.{Keyword as Word, Name, Number, Quoted, Equals, Open, Close, Plus, Join, Minus, Dash, Star, Slash, Percent, Less, LessOrEqual, NotEqual, Greater, GreaterOrEqual}
-use Rattle.svc_value.specs.Printed.{quoted}
+use Rattle.svc_value.specs.Printed.{between_quotes}
 use Rattle.svc_expr.specs.declared.expr.Op.{Op}
 use Rattle.svc_expr.specs.declared.expr.Op.TheVariants as op
 use Rattle.svc_expr.specs.declared.level.Level.TheVariants.{Whole, Disjunction, Conjunction, Denial, Comparison, Sum, Product, Unary, Operand}
@@ -12,7 +12,7 @@ use Rattle.svc_expr.specs.declared.level.Form.TheVariants as form
 use Rattle.svc_expr.specs.declared.level.Aggregate.TheVariants as aggregate
 use Rattle.svc_expr.specs.Tree.{Tree, number, words, given, negated, denied, pair, choice, len_of, number_of, text_of, sum_of_members, count_of_members, least_member, greatest_member, depth}
 use Rattle.svc_expr.specs.Canonical.{has_bracket, name_at, IsWritable}
-use Rattle.svc_expr.specs.Grammar.{place_of, Spells, whole_number, negative_number, quoted_text, named, in_brackets, call, member_call, negation, joined, comparison, denial, if_then_else, as_tighter}
+use Rattle.svc_expr.specs.Grammar.{name_index, Spells, whole_number, negative_number, quoted_text, named, in_brackets, call, member_call, negation, joined, comparison, denial, if_then_else, as_tighter}
 use Rattle.svc_expr.proofs.NameLemmas.{Names}
 use Rattle.svc_expr.proofs.Unquoted.{quoted_is_literal}
 
@@ -42,7 +42,7 @@ in_brackets_if false ts rest = Open ∷ ts (Close ∷ rest)
 unfoldable pub canon : Names → Tree → List Token → List Token
 canon names (number (pos n)) rest = Number n ∷ rest
 canon names (number (negsuc n)) rest = Dash ∷ Number (suc n) ∷ rest
-canon names (words text) rest = Quoted (quoted text) ∷ rest
+canon names (words text) rest = Quoted (between_quotes text) ∷ rest
 canon names (given k) rest = Name (name_at names k) ∷ rest
 canon names (negated a) rest = Minus ∷ in_brackets_if (has_bracket a) (canon names a) rest
 canon names (denied a) rest = Open ∷ Word keyword.Not ∷ in_brackets_if (has_bracket a) (canon names a) (Close ∷ rest)
@@ -61,7 +61,7 @@ abbrev pub room : Bool → ℕ → ℕ
 room true d = d
 room false d = suc d
 
-module _ (names : Names) (apart : (k : ℕ) → k < length names → place_of names (name_at names k) ≡ k) where
+module _ (names : Names) (apart : (k : ℕ) → k < length names → name_index names (name_at names k) ≡ k) where
   -- what is spelled at the level of `-` stands at the looser ones
   to_product : {d : ℕ} {ts rest : List Token} {e : Tree} → Spells names Unary d ts e rest → Spells names Product d ts e rest
   to_product s = as_tighter s

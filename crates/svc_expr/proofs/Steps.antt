@@ -8,10 +8,10 @@ use Rattle.svc_expr.specs.declared.level.Level.TheVariants.{Disjunction, Conjunc
 use Rattle.svc_expr.specs.declared.expr.Op.{Op}
 use Rattle.svc_expr.specs.declared.level.Form.{Form}
 use Rattle.svc_expr.specs.declared.level.Aggregate.{Aggregate}
-use Rattle.svc_expr.specs.declared.small.ReadError.{ReadError}
-use Rattle.svc_expr.specs.declared.small.ReadError.TheVariants.{Memory, Bad}
+use Rattle.svc_expr.specs.declared.sized_expr.ReadError.{ReadError}
+use Rattle.svc_expr.specs.declared.sized_expr.ReadError.TheVariants.{Memory, Bad}
 use Rattle.svc_expr.specs.Tree.{Tree}
-use Rattle.svc_expr.specs.Small.{Fails}
+use Rattle.svc_expr.specs.SizedExpr.{Fails}
 use Rattle.svc_expr.specs.Grammar.{level_number, tighter, joins, IsLeft}
 use Rattle.svc_expr.specs.Reading.{Part, Read, ◌>>=◌, Inner, called_at, aggregate_at, with_op, pair_part, chain, chained, level_at, inner}
 

@@ -9,12 +9,12 @@ use Rattle.std.proofs.lemmas.Bool.{cases_lt, cases_eq, cases_Bool, eqb-true, ne_
 use Rattle.std.proofs.lemmas.Bool.Decides.{nat_tests}
 use Rattle.svc_value.specs.declared.value.Value.TheVariants.{Words}
 use Rattle.svc_value.specs.Literal.{IsLiteral}
-use Rattle.svc_value.specs.Printed.{is_escaped, quoted_byte, quoted, hex_escape as hex_printed}
+use Rattle.svc_value.specs.Printed.{is_escaped, quoted_byte, between_quotes, hex_escape as hex_printed}
 use Rattle.svc_value.specs.Quoted.{any_form, is_itself, short_escape, hex_escape, Spells, closing, itself, short, hex, IsQuoted}
 use Rattle.svc_value.proofs.InsidePlaces.{hex_parts}
 use Rattle.svc_expr.specs.declared.quoting.Place.{Place}
 use Rattle.svc_expr.specs.declared.quoting.Place.TheVariants.{Plain, Escape, High, Low, Closed}
-use Rattle.svc_expr.specs.Quoted.{step, meaning_from, text_if, unquoted}
+use Rattle.svc_expr.specs.Quoted.{step, meaning_from, text_if, quoted_meaning}
 use Rattle.svc_expr.proofs.QuotedLemmas.{Text, is_text, is_some_text}
 
 -- one byte more
@@ -159,13 +159,13 @@ read_is_spelled (b ∷ bytes) place text h =
     let s = split (step place b) bytes text h in
     subst (SpelledFrom place (b ∷ bytes)) s.whole (led b bytes s.rest place s.next s.stepped (read_is_spelled bytes s.next.0 s.rest s.read))
 
-pub literal_is_read : (raw text : List ℕ) → IsLiteral raw (Words text) → unquoted raw ≡ Some text
-unfolding unquoted
+pub literal_is_read : (raw text : List ℕ) → IsLiteral raw (Words text) → quoted_meaning raw ≡ Some text
+unfolding quoted_meaning
 literal_is_read raw text q =
-    ap unquoted q.opening ∙ ap (option_and_then text_if) (spelled_is_read q.inside text [] q.spelled refl) ∙ sym (is_text text q.most q.utf8)
+    ap quoted_meaning q.opening ∙ ap (option_and_then text_if) (spelled_is_read q.inside text [] q.spelled refl) ∙ sym (is_text text q.most q.utf8)
 
-pub read_is_literal : (raw text : List ℕ) → unquoted raw ≡ Some text → IsLiteral raw (Words text)
-unfolding unquoted
+pub read_is_literal : (raw text : List ℕ) → quoted_meaning raw ≡ Some text → IsLiteral raw (Words text)
+unfolding quoted_meaning
 read_is_literal [] text = λ h. absurd (cc)
 read_is_literal (b ∷ inside) text = by (b == 34) (eqb-true b 34)
   where
@@ -222,5 +222,5 @@ shown_text (b ∷ text) =
     subst (λ (l : List ℕ). Spells any_form l (b ∷ text) []) (sym (append_assoc (quoted_byte b) (flat_map quoted_byte text) (34 ∷ [])))
     (shown_byte b (flat_map quoted_byte text ++ 34 ∷ []) text [] (shown_text text))
 
-pub quoted_is_literal : (text : List ℕ) → length text ≤ 256 → IsUtf8 text → IsLiteral (quoted text) (Words text)
+pub quoted_is_literal : (text : List ℕ) → length text ≤ 256 → IsUtf8 text → IsLiteral (between_quotes text) (Words text)
 quoted_is_literal text most utf8 = record { inside = flat_map quoted_byte text ++ 34 ∷ []; opening = refl; spelled = shown_text text; most = most; utf8 = utf8 }

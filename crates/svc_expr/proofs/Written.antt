@@ -15,7 +15,7 @@ use Rattle.svc_token.specs.declared.token.Token.TheVariants.{Keyword as Word, Na
 use Rattle.svc_token.specs.Word.{is_word_byte, IsName, number_from}
 use Rattle.svc_token.specs.Keyword.{keyword_of}
 use Rattle.svc_token.specs.Cutting.{begins, Front, word_or, word_token, number_at, quoted_at, mark_at, front, Cuts, ends, blank, token}
-use Rattle.svc_value.specs.Printed.{quoted}
+use Rattle.svc_value.specs.Printed.{between_quotes}
 use Rattle.svc_expr.specs.declared.expr.Op.{Op}
 use Rattle.svc_expr.specs.declared.expr.Op.TheVariants as op
 use Rattle.svc_expr.specs.Tree.{Tree, number, words, given, negated, denied, pair, choice, len_of, number_of, text_of, sum_of_members, count_of_members, least_member, greatest_member}
@@ -33,7 +33,7 @@ brackets_if false f rest = 40 ∷ f (41 ∷ rest)
 unfoldable pub onto : Names → Tree → List ℕ → List ℕ
 onto names (number (pos n)) rest = decimal n ++ rest
 onto names (number (negsuc n)) rest = 45 ∷ (decimal (suc n) ++ rest)
-onto names (words text) rest = quoted text ++ rest
+onto names (words text) rest = between_quotes text ++ rest
 onto names (given k) rest = name_at names k ++ rest
 onto names (negated a) rest = 45 ∷ brackets_if (has_bracket a) (onto names a) rest
 onto names (denied a) rest = codes "(not " ++ brackets_if (has_bracket a) (onto names a) (41 ∷ rest)
@@ -290,7 +290,7 @@ module _ (names : Names) (are_names : (k : ℕ) → k < length names → IsName 
   unfolding onto canon
   cuts (number (pos n)) w rest ts g s = number_text n rest ts (omega arith) g s
   cuts (number (negsuc n)) w rest ts g s = dash_sign (decimal (suc n) ++ rest) (Number (suc n) ∷ ts) (first_digit (suc n) rest (omega arith)) (number_text (suc n) rest ts (omega arith) g s)
-  cuts (words text) w rest ts g s = fronted (quoted text) rest (Quoted (quoted text)) ts (quoted_front text rest) s
+  cuts (words text) w rest ts g s = fronted (between_quotes text) rest (Quoted (between_quotes text)) ts (quoted_front text rest) s
   cuts (given k) w rest ts g s = fronted (name_at names k) rest (Name (name_at names k)) ts (name_front (name_at names k) rest (are_names k w) g) s
   cuts (negated a) w rest ts g s = minus_sign (brackets_if (has_bracket a) (onto names a) rest) (in_brackets_if (has_bracket a) (canon names a) ts) (no_digit names a rest) (bracketed_cut (has_bracket a) (onto names a) (canon names a) rest ts g s (cuts a w))
   cuts (denied a) w rest ts g s = not_word _ _ (bracketed_cut (has_bracket a) (onto names a) (canon names a) (41 ∷ rest) (Close ∷ ts) refl (closed rest ts s) (cuts a w))

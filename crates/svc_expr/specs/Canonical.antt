@@ -3,7 +3,7 @@ use Rattle.std.specs.Int.{w64}
 use Rattle.std.specs.Prelude.{FitsSigned, ◌≡◌, ℕ, ◌<◌, ◌≤◌, ◌^◌, pos, negsuc, Bool, true, false, List, [], ◌++◌, length, map, codes, slice_index_or}
 use Rattle.std.specs.Str.{IsUtf8}
 use Rattle.std.specs.Fmt.{signed_decimal}
-use Rattle.svc_value.specs.Printed.{quoted}
+use Rattle.svc_value.specs.Printed.{between_quotes}
 use Rattle.svc_expr.specs.declared.expr.Op.{Op}
 use Rattle.svc_expr.specs.declared.expr.Op.TheVariants.{Add, Sub, Mul, Div, Rem, Join, Eq, Ne, Lt, Le, Gt, Ge, And, Or}
 use Rattle.svc_expr.specs.Types.{mentions}
@@ -46,7 +46,7 @@ name_at names k = slice_index_or names k []
 -- the canonical text of a tree with these names
 unfoldable pub canonical_text : List (List ℕ) → Tree → List ℕ
 canonical_text names (number z) = signed_decimal z
-canonical_text names (words text) = quoted text
+canonical_text names (words text) = between_quotes text
 canonical_text names (given k) = name_at names k
 canonical_text names (negated a) = codes "-" ++ bracketed (has_bracket a) (canonical_text names a)
 canonical_text names (denied a) = codes "(not " ++ bracketed (has_bracket a) (canonical_text names a) ++ codes ")"

@@ -122,13 +122,13 @@ aggregate_of keyword.Max = Some aggregate.Max
 aggregate_of keyword = None
 
 -- the place of a name among names, or their number where it is not among them
-abbrev pub place_of : List (List ℕ) → List ℕ → ℕ
-place_of names name = position_or_len (λ other. bytes_eq other name) names
+abbrev pub name_index : List (List ℕ) → List ℕ → ℕ
+name_index names name = position_or_len (λ other. bytes_eq other name) names
 
 -- the names so far, and those of a list that are not among them, each once
 abbrev pub with_names : List (List ℕ) → List (List ℕ) → List (List ℕ)
 with_names names [] = names
-with_names names (name ∷ more) = with_names (if nat_lt (place_of names name) (length names) then names else names ++ name ∷ []) more
+with_names names (name ∷ more) = with_names (if nat_lt (name_index names name) (length names) then names else names ++ name ∷ []) more
 
 -- the names in a list of tokens
 abbrev pub names_among : List Token → List (List ℕ)
@@ -141,7 +141,7 @@ pub data Spells (names : List (List ℕ)) : Level → ℕ → List Token → Tre
   whole_number : {d n : ℕ} {rest : List Token} → n < 2 ^ 63 → Spells names Operand d (Number n ∷ rest) (number (pos n)) rest
   negative_number : {d n : ℕ} {rest : List Token} → n ≤ 2 ^ 63 → Spells names Operand d (Dash ∷ Number n ∷ rest) (number (neg_ℤ (pos n))) rest
   quoted_text : {d : ℕ} {raw text : List ℕ} {rest : List Token} → IsLiteral raw (Words text) → Spells names Operand d (Quoted raw ∷ rest) (words text) rest
-  named : {d : ℕ} {name : List ℕ} {rest : List Token} → Spells names Operand d (Name name ∷ rest) (given (place_of names name)) rest
+  named : {d : ℕ} {name : List ℕ} {rest : List Token} → Spells names Operand d (Name name ∷ rest) (given (name_index names name)) rest
   in_brackets : {d : ℕ} {ts rest : List Token} {e : Tree} → Spells names Whole d ts e (Close ∷ rest) → Spells names Operand (suc d) (Open ∷ ts) e rest
   call : {d : ℕ} {ts rest : List Token} {e : Tree} {word : Keyword} {form : Form} → call_of word ≡ Some form → Spells names Whole d ts e (Close ∷ rest) → Spells names Operand (suc d) (Word word ∷ Open ∷ ts) (formed form e) rest
   member_call : {d : ℕ} {rest : List Token} {word : Keyword} {a : Aggregate} → aggregate_of word ≡ Some a → Spells names Operand (suc d) (Word word ∷ Open ∷ Close ∷ rest) (aggregated a) rest

@@ -4,10 +4,10 @@ pub mod Quoted
 pub mod Grammar
 pub mod Reading
 pub mod Canonical
-pub mod Small
+pub mod SizedExpr
 pub mod Operand
 pub mod Types
 pub mod Typing
 pub mod formers
 pub mod Names
-pub mod Borrowed
+pub mod ValueRef

@@ -68,12 +68,12 @@ of_numbers Or x y = truth (is_true x || is_true y)
 of_numbers op x y = compared op (int_cmp x y)
 
 -- two texts as one, or a fault past 256 bytes
-abbrev pub joined : List ℕ → List ℕ → Value
-joined x y = if nat_le (length (x ++ y)) 256 then Words (x ++ y) else Bad Long
+abbrev pub concatenation : List ℕ → List ℕ → Value
+concatenation x y = if nat_le (length (x ++ y)) 256 then Words (x ++ y) else Bad Long
 
 -- an operator on two texts, which are ordered by their bytes
 abbrev pub of_texts : Op → List ℕ → List ℕ → Value
-of_texts Join x y = joined x y
+of_texts Join x y = concatenation x y
 of_texts op x y = compared op (slice_cmp nat_cmp x y)
 
 -- an operator on two values: the first fault, or what it makes of two numbers or two texts
@@ -97,10 +97,10 @@ of_text f (Words text) = f text
 of_text f (Bad fault) = Bad fault
 
 -- the fault of the condition, or the branch that it chooses
-abbrev pub chosen : Value → Value → Value → Value
-chosen (Int z) x y = if is_true z then x else y
-chosen (Words text) x y = untyped
-chosen (Bad fault) x y = Bad fault
+abbrev pub branch : Value → Value → Value → Value
+branch (Int z) x y = if is_true z then x else y
+branch (Words text) x y = untyped
+branch (Bad fault) x y = Bad fault
 
 -- one decimal digit or more and nothing else, as a number
 abbrev pub unsigned_number : List ℕ → Option ℤ
@@ -163,7 +163,7 @@ meaning (given k) values members = slice_index_or values k untyped
 meaning (negated a) values members = of_number (λ z. exact (neg_ℤ z)) (meaning a values members)
 meaning (denied a) values members = of_number (λ z. truth (not (is_true z))) (meaning a values members)
 meaning (pair op a b) values members = of_pair op (meaning a values members) (meaning b values members)
-meaning (choice c a b) values members = chosen (meaning c values members) (meaning a values members) (meaning b values members)
+meaning (choice c a b) values members = branch (meaning c values members) (meaning a values members) (meaning b values members)
 meaning (len_of a) values members = of_text characters (meaning a values members)
 meaning (number_of a) values members = of_text (λ text. number_or_fault (signed_number text)) (meaning a values members)
 meaning (text_of a) values members = of_number (λ z. Words (signed_decimal z)) (meaning a values members)

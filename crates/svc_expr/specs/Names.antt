@@ -1,6 +1,6 @@
 -- Lists of names.
 use Rattle.std.specs.Prelude.{ℕ, List, [], ◌∷◌}
-use Rattle.propagation.specs.Words.{Has}
+use Rattle.propagation.specs.Lists.{Has}
 
 -- no name stands twice
 abbrev pub Differ : List (List ℕ) → Type 0

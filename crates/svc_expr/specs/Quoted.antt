@@ -38,6 +38,6 @@ abbrev pub text_if : List ℕ → Option (List ℕ)
 text_if text = if nat_le (length text) 256 && is_utf8 text then Some text else None
 
 -- the text that a quoted text means, where it means one
-unfoldable pub unquoted : List ℕ → Option (List ℕ)
-unquoted [] = None
-unquoted (b ∷ inside) = if b == 34 then option_and_then text_if (meaning_from Plain inside) else None
+unfoldable pub quoted_meaning : List ℕ → Option (List ℕ)
+quoted_meaning [] = None
+quoted_meaning (b ∷ inside) = if b == 34 then option_and_then text_if (meaning_from Plain inside) else None

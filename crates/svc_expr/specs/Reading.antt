@@ -10,9 +10,9 @@ use Rattle.svc_expr.specs.declared.level.Level.TheVariants.{Whole, Disjunction, 
 use Rattle.svc_expr.specs.declared.level.Form.{Form}
 use Rattle.svc_expr.specs.declared.level.Form.TheVariants as form
 use Rattle.svc_expr.specs.declared.level.Aggregate.{Aggregate}
-use Rattle.svc_expr.specs.Quoted.{unquoted}
+use Rattle.svc_expr.specs.Quoted.{quoted_meaning}
 use Rattle.svc_expr.specs.Tree.{Tree, number, words, given, pair, choice}
-use Rattle.svc_expr.specs.Grammar.{joins, formed, aggregated, call_of, aggregate_of, place_of}
+use Rattle.svc_expr.specs.Grammar.{joins, formed, aggregated, call_of, aggregate_of, name_index}
 
 -- a tree, or None in place of one that is too large
 abbrev pub Part : Type 0
@@ -73,7 +73,7 @@ module _ (keep : Tree → Part) where
 
   -- what a name stands for: its place among the names
   abbrev pub naming : List (List ℕ) → List ℕ → Part
-  naming names name = keep (given (place_of names name))
+  naming names name = keep (given (name_index names name))
 
 -- named says what a name stands for
 module _ (keep : Tree → Part) (named : List ℕ → Part) where
@@ -90,7 +90,7 @@ module _ (keep : Tree → Part) (named : List ℕ → Part) where
   unfoldable pub operand_at : Inner → List Token → Read
   operand_at sub (Number n ∷ rest) = if nat_lt n (2 ^ 63) then Some (keep (number (pos n)), rest) else None
   operand_at sub (Dash ∷ ts) = negative_at keep ts
-  operand_at sub (Quoted raw ∷ rest) = words_at keep (unquoted raw) rest
+  operand_at sub (Quoted raw ∷ rest) = words_at keep (quoted_meaning raw) rest
   operand_at sub (Name name ∷ rest) = Some (named name, rest)
   operand_at sub (Open ∷ ts) = sub.enter Whole ts >>= λ x. after_close x.0 x.1
   operand_at sub (Word word ∷ ts) = call_at sub word ts

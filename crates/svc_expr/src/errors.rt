@@ -8,7 +8,7 @@ pub enum ExprError {
     Bad,
     /// The tree has more than 128 nodes or a depth above 32.
     TooLarge,
-    /// Want of memory.
+    /// Out of memory.
     OutOfMemory,
 }
 

@@ -6,11 +6,11 @@ ghost use Rattle.svc_expr.specs.Meaning.{IsNoText, characters, exact, has_text, 
 ghost use Rattle.svc_expr.specs.Operand.{value_of};
 ghost use Rattle.svc_expr.specs.Tree.{tree_of};
 
-use crate::borrowed::{Borrowed, borrowed_value};
 use crate::members::{greatest_of, least_of, sum_of};
 use crate::numbers::{calculate, counts_as_true, from_bool, negated};
 use crate::operand::{Operand, View};
 use crate::texts::{combine, count_characters, parse_number, print_number};
+use crate::value_ref::{ValueRef, borrowed_value};
 use crate::{Expr, ExprKind, Op};
 use std::alloc::Global;
 use svc_value::{Fault, OutOfMemory, Value};
@@ -157,9 +157,9 @@ pub fn eval(
     ensures no_memory { has_text (tree_of expr.now) ≡ false → All IsNoText given.now → IsOk result }
 {
     match borrowed_value(expr, given, members) {
-        Borrowed::Int(number) => Ok(Value::Int(number)),
-        Borrowed::Text(text) => Ok(Value::Words(text.copy()?)),
-        Borrowed::Bad(fault) => Ok(Value::Bad(fault)),
-        Borrowed::Unknown => part(alloc, expr, given, members)?.into_value(),
+        ValueRef::Int(number) => Ok(Value::Int(number)),
+        ValueRef::Text(text) => Ok(Value::Words(text.copy()?)),
+        ValueRef::Bad(fault) => Ok(Value::Bad(fault)),
+        ValueRef::Unknown => part(alloc, expr, given, members)?.into_value(),
     }
 }

@@ -7,7 +7,7 @@ ghost use Rattle.svc_expr.specs.Tree.{Tree, tree_of, IsSmall};
 ghost use Rattle.svc_expr.specs.Grammar.{IsExpression, IsReading};
 ghost use Rattle.svc_expr.specs.Names.{Differ};
 ghost use Rattle.svc_expr.specs.Types.{name_count};
-ghost use Rattle.svc_expr.specs.Small.{reading, Answers};
+ghost use Rattle.svc_expr.specs.SizedExpr.{reading, Answers};
 
 use crate::gathering::gather;
 use crate::level::Level;
@@ -18,14 +18,14 @@ use svc_token::{CutError, Token, cut};
 use svc_value::Name;
 
 // The levels of the text that may be open at once.
-const LEVELS: u32 = 64;
+const MAX_LEVELS: u32 = 64;
 
 // The tree of all the tokens.
-#[tactic(auto, unfolding(crate::specs::Small::reading))]
+#[tactic(auto, unfolding(crate::specs::SizedExpr::reading))]
 fn read_all(alloc: Global, names: &[Name], tokens: &[Token]) -> Result<Expr, ExprError>
     ensures { Answers result (reading names.now tokens.now) }
 {
-    let (part, rest) = read(alloc, names, Level::Whole, LEVELS, tokens)?;
+    let (part, rest) = read(alloc, names, Level::Whole, MAX_LEVELS, tokens)?;
     if !rest.is_empty() {
         return Err(ExprError::Bad);
     }
@@ -36,7 +36,7 @@ fn read_all(alloc: Global, names: &[Name], tokens: &[Token]) -> Result<Expr, Exp
 }
 
 /// Reads the expression that the tokens are. `Bad` exactly where they are not in the grammar; `TooLarge` exactly where the
-/// tree has more than 128 nodes or a depth above 32; `OutOfMemory` for want of memory. The names differ, and are as many
+/// tree has more than 128 nodes or a depth above 32; `OutOfMemory` when memory runs out. The names differ, and are as many
 /// as `names_of` says.
 pub fn read_tokens(alloc: Global, tokens: &[Token]) -> Result<Reading, ExprError>
     ensures found { IfOk result (λ reading. IsExpression tokens.now (tree_of reading.expr) reading.names × IsSmall (tree_of reading.expr)) }
@@ -56,7 +56,7 @@ pub fn read_tokens(alloc: Global, tokens: &[Token]) -> Result<Reading, ExprError
 }
 
 /// Reads the expression that the text is. `Bad` exactly where it is not in the grammar; `TooLarge` exactly where the tree
-/// has more than 128 nodes or a depth above 32; `OutOfMemory` for want of memory. The names differ, and are as many as
+/// has more than 128 nodes or a depth above 32; `OutOfMemory` when memory runs out. The names differ, and are as many as
 /// `names_of` says.
 pub fn read_expr(alloc: Global, text: &str) -> Result<Reading, ExprError>
     ensures found { IfOk result (λ reading. IsReading text.now (tree_of reading.expr) reading.names × IsSmall (tree_of reading.expr)) }

@@ -8,7 +8,7 @@ use svc_token::Token;
 use svc_value::{Name, Names, OutOfMemory};
 
 // The most names that are kept: more than any tree within the limits has.
-const MOST_NAMES: usize = 256;
+const MAX_NAMES: usize = 256;
 
 // Appends a name where it is not among the names, and where there are fewer than 256.
 fn add(alloc: Global, names: &mut Names, name: &[u8]) -> Result<(), OutOfMemory>
@@ -17,7 +17,7 @@ fn add(alloc: Global, names: &mut Names, name: &[u8]) -> Result<(), OutOfMemory>
     ensures added { OnOk result ((more : List (List ℕ)) → take 256 (with_names names.new more) ≡ take 256 (with_names names.old (name.now ∷ more))) }
 {
     let count = names.len();
-    if count == MOST_NAMES {
+    if count == MAX_NAMES {
         return Ok(());
     }
     if place_of(names.as_slice(), name) < count {

@@ -1,14 +1,14 @@
 // Operands that hold no expression.
 ghost use Rattle.std.specs.Prelude.{◌≡◌, Option, Some, None};
 ghost use Rattle.svc_expr.specs.Grammar.{aggregate_of};
-ghost use Rattle.svc_expr.specs.Quoted.{unquoted};
+ghost use Rattle.svc_expr.specs.Quoted.{quoted_meaning};
 ghost use Rattle.svc_expr.specs.Reading.{aggregate_at, negative_at, words_at};
-ghost use Rattle.svc_expr.specs.Small.{fit, part_of, Gives};
+ghost use Rattle.svc_expr.specs.SizedExpr.{fit, part_of, Gives};
 
 use crate::operators::aggregate_of;
 use crate::parts::{aggregate, negative, text};
 use crate::quoting::unquote;
-use crate::small::{ReadError, Small};
+use crate::sized_expr::{ReadError, SizedExpr};
 use std::alloc::Global;
 use svc_token::{Keyword, Token};
 
@@ -16,7 +16,7 @@ use svc_token::{Keyword, Token};
 pub(crate) fn behind_dash<'a, 't>(
     alloc: Global,
     rest: &'a [Token<'t>],
-) -> Result<(Option<Small>, &'a [Token<'t>]), ReadError>
+) -> Result<(Option<SizedExpr>, &'a [Token<'t>]), ReadError>
     ensures { Gives (λ x. (part_of x.0, x.1.now)) result (negative_at fit rest.now) }
 {
     let [first, after @ ..] = rest else {
@@ -33,8 +33,8 @@ pub(crate) fn quoted<'a, 't>(
     alloc: Global,
     raw: &[u8],
     rest: &'a [Token<'t>],
-) -> Result<(Option<Small>, &'a [Token<'t>]), ReadError>
-    ensures { Gives (λ x. (part_of x.0, x.1.now)) result (words_at fit (unquoted raw.now) rest.now) }
+) -> Result<(Option<SizedExpr>, &'a [Token<'t>]), ReadError>
+    ensures { Gives (λ x. (part_of x.0, x.1.now)) result (words_at fit (quoted_meaning raw.now) rest.now) }
 {
     match unquote(alloc, raw)? {
         Some(words) => Ok((text(alloc, words)?, rest)),
@@ -48,7 +48,7 @@ pub(crate) fn member_call<'a, 't>(
     keyword: Keyword,
     has_room: bool,
     rest: &'a [Token<'t>],
-) -> Result<(Option<Small>, &'a [Token<'t>]), ReadError>
+) -> Result<(Option<SizedExpr>, &'a [Token<'t>]), ReadError>
     ensures { Gives (λ x. (part_of x.0, x.1.now)) result (aggregate_at fit has_room (aggregate_of keyword) rest.now) }
 {
     if !has_room {

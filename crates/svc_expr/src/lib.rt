@@ -1,8 +1,7 @@
 //! Expressions over whole numbers and texts: their trees, how they are written, their types and their meaning.
-//! A fault is a value like any other, so evaluation has no refusal but want of memory.
+//! A fault is a value like any other, so evaluation has no refusal but out of memory.
 #![tactic(auto)]
 
-mod borrowed;
 mod boxed;
 mod copy;
 mod errors;
@@ -22,9 +21,10 @@ mod printing;
 mod quoting;
 mod reading;
 mod refusing;
-mod small;
+mod sized_expr;
 mod texts;
 mod types;
+mod value_ref;
 
 pub use boxed::Boxed;
 pub use errors::{ExprError, TypeErrorAt};

@@ -1,6 +1,6 @@
 // Which tokens are operators, and which keywords name calls.
 ghost use Rattle.std.specs.Prelude.{◌≡◌};
-ghost use Rattle.svc_expr.specs.Grammar.{operator, level_of, joins, call_of, aggregate_of, place_of};
+ghost use Rattle.svc_expr.specs.Grammar.{operator, level_of, joins, call_of, aggregate_of, name_index};
 
 use crate::Op;
 use crate::level::{Aggregate, Form, Level};
@@ -80,7 +80,7 @@ pub(crate) fn aggregate_of(keyword: Keyword) -> Option<Aggregate>
 
 /// The place of a name among names, or their number where it is not among them.
 pub(crate) fn place_of(names: &[Name], name: &[u8]) -> usize
-    ensures { result ≡ place_of names.now name.now }
+    ensures { result ≡ name_index names.now name.now }
 {
     for (place, other) in names.iter().enumerate() {
         if other.as_slice() == name {

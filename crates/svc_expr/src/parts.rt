@@ -4,25 +4,30 @@ ghost use Rattle.svc_expr.specs.Tree.{given, words, number, nodes, depth, tree_o
 ghost use Rattle.svc_expr.specs.Types.{name_count};
 ghost use Rattle.svc_expr.specs.Grammar.{aggregated};
 ghost use Rattle.svc_expr.specs.Reading.{formed_part, pair_part, choice_part};
-ghost use Rattle.svc_expr.specs.Small.{fit, part_of, Gives};
+ghost use Rattle.svc_expr.specs.SizedExpr.{fit, part_of, Gives};
 
 use crate::level::{Aggregate, Form};
-use crate::small::{GREATEST_DEPTH, MOST_NODES, ReadError, Small};
+use crate::sized_expr::{MAX_DEPTH, MAX_NODES, ReadError, SizedExpr};
 use crate::{Boxed, Expr, ExprKind, Op};
 use std::alloc::Global;
 use svc_value::ValueText;
 
-#[tactic(auto, unfolding(crate::specs::Small::fit))]
-fn build(alloc: Global, kind: ExprKind, count: u32, height: u32) -> Result<Option<Small>, ReadError>
+#[tactic(auto, unfolding(crate::specs::SizedExpr::fit))]
+fn build(
+    alloc: Global,
+    kind: ExprKind,
+    count: u32,
+    height: u32,
+) -> Result<Option<SizedExpr>, ReadError>
     requires counted { count ≡ nodes (tree_of (record { kind = kind })) }
     requires measured { height ≡ depth (tree_of (record { kind = kind })) }
     requires named { name_count (tree_of (record { kind = kind })) ≤ 256 }
     ensures { Gives part_of result (Some (fit (tree_of (record { kind = kind })))) }
 {
-    if count > MOST_NODES || height > GREATEST_DEPTH {
+    if count > MAX_NODES || height > MAX_DEPTH {
         return Ok(None);
     }
-    Ok(Some(Small {
+    Ok(Some(SizedExpr {
         expr: Expr {
             kind: Boxed::new(alloc, kind)?,
         },
@@ -31,14 +36,14 @@ fn build(alloc: Global, kind: ExprKind, count: u32, height: u32) -> Result<Optio
     }))
 }
 
-fn whole_number(alloc: Global, z: i64) -> Result<Option<Small>, ReadError>
+fn whole_number(alloc: Global, z: i64) -> Result<Option<SizedExpr>, ReadError>
     ensures { Gives part_of result (Some (fit (number z))) }
 {
     build(alloc, ExprKind::Int(z), 1, 1)
 }
 
 /// The number without a sign; `Bad` where it is no `i64`.
-pub(crate) fn positive(alloc: Global, n: u64) -> Result<Option<Small>, ReadError>
+pub(crate) fn positive(alloc: Global, n: u64) -> Result<Option<SizedExpr>, ReadError>
     ensures { Gives part_of result (if nat_lt n (2 ^ 63) then Some (fit (number (pos n))) else None) }
 {
     if n >= 1 << 63 {
@@ -48,7 +53,7 @@ pub(crate) fn positive(alloc: Global, n: u64) -> Result<Option<Small>, ReadError
 }
 
 /// The number behind `-`; `Bad` where it is no `i64`.
-pub(crate) fn negative(alloc: Global, n: u64) -> Result<Option<Small>, ReadError>
+pub(crate) fn negative(alloc: Global, n: u64) -> Result<Option<SizedExpr>, ReadError>
     ensures { Gives part_of result (if nat_le n (2 ^ 63) then Some (fit (number (neg_ℤ (pos n)))) else None) }
 {
     if n > 1 << 63 {
@@ -59,15 +64,15 @@ pub(crate) fn negative(alloc: Global, n: u64) -> Result<Option<Small>, ReadError
 }
 
 /// A text.
-pub(crate) fn text(alloc: Global, text: ValueText) -> Result<Option<Small>, ReadError>
+pub(crate) fn text(alloc: Global, text: ValueText) -> Result<Option<SizedExpr>, ReadError>
     ensures { Gives part_of result (Some (fit (words text))) }
 {
     build(alloc, ExprKind::Words(text), 1, 1)
 }
 
 /// The name at this place.
-#[tactic(auto, unfolding(crate::specs::Small::fit))]
-pub(crate) fn name(alloc: Global, place: usize) -> Result<Option<Small>, ReadError>
+#[tactic(auto, unfolding(crate::specs::SizedExpr::fit))]
+pub(crate) fn name(alloc: Global, place: usize) -> Result<Option<SizedExpr>, ReadError>
     ensures { Gives part_of result (Some (fit (given place))) }
 {
     if place > 255 {
@@ -77,7 +82,7 @@ pub(crate) fn name(alloc: Global, place: usize) -> Result<Option<Small>, ReadErr
 }
 
 /// A call over the members.
-pub(crate) fn aggregate(alloc: Global, aggregate: Aggregate) -> Result<Option<Small>, ReadError>
+pub(crate) fn aggregate(alloc: Global, aggregate: Aggregate) -> Result<Option<SizedExpr>, ReadError>
     ensures { Gives part_of result (Some (fit (aggregated aggregate))) }
 {
     match aggregate {
@@ -89,7 +94,11 @@ pub(crate) fn aggregate(alloc: Global, aggregate: Aggregate) -> Result<Option<Sm
 }
 
 /// A form of one operand.
-pub(crate) fn form(alloc: Global, form: Form, a: Option<Small>) -> Result<Option<Small>, ReadError>
+pub(crate) fn form(
+    alloc: Global,
+    form: Form,
+    a: Option<SizedExpr>,
+) -> Result<Option<SizedExpr>, ReadError>
     ensures { Gives part_of result (Some (formed_part fit form (part_of a))) }
 {
     let Some(a) = a else {
@@ -109,9 +118,9 @@ pub(crate) fn form(alloc: Global, form: Form, a: Option<Small>) -> Result<Option
 pub(crate) fn pair(
     alloc: Global,
     op: Op,
-    a: Option<Small>,
-    b: Option<Small>,
-) -> Result<Option<Small>, ReadError>
+    a: Option<SizedExpr>,
+    b: Option<SizedExpr>,
+) -> Result<Option<SizedExpr>, ReadError>
     ensures { Gives part_of result (Some (pair_part fit op (part_of a) (part_of b))) }
 {
     let Some(a) = a else {
@@ -127,10 +136,10 @@ pub(crate) fn pair(
 /// `if c then a else b`
 pub(crate) fn choice(
     alloc: Global,
-    c: Option<Small>,
-    a: Option<Small>,
-    b: Option<Small>,
-) -> Result<Option<Small>, ReadError>
+    c: Option<SizedExpr>,
+    a: Option<SizedExpr>,
+    b: Option<SizedExpr>,
+) -> Result<Option<SizedExpr>, ReadError>
     ensures { Gives part_of result (Some (choice_part fit (part_of c) (part_of a) (part_of b))) }
 {
     let Some(c) = c else {

@@ -2,7 +2,7 @@
 ghost use Rattle.std.specs.Prelude.{◌≡◌, ◌++◌, ◌≤◌, All, List, ℕ, codes, length, OnOk, OnErr};
 ghost use Rattle.std.specs.Io.{StartsWith};
 ghost use Rattle.std.specs.Str.{IsUtf8};
-ghost use Rattle.svc_value.specs.Printed.{quoted};
+ghost use Rattle.svc_value.specs.Printed.{between_quotes};
 ghost use Rattle.svc_token.specs.Word.{IsName};
 ghost use Rattle.svc_expr.specs.Canonical.{IsInOrder, IsWithin, sign_text, has_bracket, bracketed, name_at, canonical_text};
 ghost use Rattle.svc_expr.specs.Grammar.{IsReading};
@@ -10,7 +10,7 @@ ghost use Rattle.svc_expr.specs.Tree.{IsSmall, Tree, tree_of};
 ghost use Rattle.svc_expr.specs.Types.{name_count};
 
 use crate::{Expr, ExprKind, Op};
-use svc_value::{LONGEST_TEXT, Name, Names, OutOfMemory, Value, ValueText, print_value};
+use svc_value::{MAX_TEXT_LEN, Name, Names, OutOfMemory, Value, ValueText, print_value};
 
 fn sign_text(op: Op) -> &'static str
     ensures { result.now ≡ sign_text op }
@@ -61,11 +61,11 @@ fn push(text: &str, out: &mut Vec<u8>) -> Result<(), OutOfMemory>
 }
 
 fn push_words(text: &ValueText, out: &mut Vec<u8>) -> Result<(), OutOfMemory>
-    ensures ok { OnOk result (out.new.items ≡ out.old.items ++ quoted text.now) }
+    ensures ok { OnOk result (out.new.items ≡ out.old.items ++ between_quotes text.now) }
     ensures err { OnErr result (out.new.items ≡ out.old.items) }
     ensures within { (length text.now ≤ 256) × IsUtf8 text.now }
 {
-    prove!(text.as_str().len() <= LONGEST_TEXT);
+    prove!(text.as_str().len() <= MAX_TEXT_LEN);
     let value = Value::Words(text.copy()?);
     print_value(&value, out)
 }

@@ -1,11 +1,11 @@
 // What quoted texts mean.
 ghost use Rattle.std.specs.Prelude.{◌≡◌, ◌<◌, ◌≤◌, ◌++◌, [], length, take, Some, None, IfOk, IfSome, IsNone, option_map, option_and_then, option_to_list};
 ghost use Rattle.std.specs.Char.{digit_value};
-ghost use Rattle.svc_expr.specs.Quoted.{IsPlace, escaped, step, meaning_from, text_if, unquoted};
+ghost use Rattle.svc_expr.specs.Quoted.{IsPlace, escaped, step, meaning_from, text_if, quoted_meaning};
 
 use std::alloc::Global;
 use std::str;
-use svc_value::{LONGEST_TEXT, OutOfMemory, ValueText};
+use svc_value::{MAX_TEXT_LEN, OutOfMemory, ValueText};
 
 /// Where a quoted text stands behind some of its bytes.
 #[derive(Clone, Copy, Debug, PartialEq, Eq)]
@@ -131,14 +131,14 @@ fn stored(alloc: Global, text: &str) -> Result<ValueText, OutOfMemory>
 }
 
 /// The text that the quoted text means, in memory of `alloc`; None where it means none.
-#[tactic(auto, unfolding(crate::specs::Quoted::unquoted))]
+#[tactic(auto, unfolding(crate::specs::Quoted::quoted_meaning))]
 pub(crate) fn unquote(alloc: Global, raw: &[u8]) -> Result<Option<ValueText>, OutOfMemory>
-    ensures { IfOk result (λ text. text ≡ unquoted raw.now) }
+    ensures { IfOk result (λ text. text ≡ quoted_meaning raw.now) }
 {
     let [b'"', inside @ ..] = raw else {
         return Ok(None);
     };
-    let mut bytes = [0; LONGEST_TEXT];
+    let mut bytes = [0; MAX_TEXT_LEN];
     match write_meaning(inside, &mut bytes) {
         Some(len) => text_of(alloc, &bytes[..len]),
         None => Ok(None),

@@ -2,13 +2,13 @@
 ghost use Rattle.std.specs.Prelude.{◌≡◌, Option, Some, None};
 ghost use Rattle.svc_expr.specs.Grammar.{tighter, IsLeft, call_of, aggregate_of};
 ghost use Rattle.svc_expr.specs.Reading.{naming, inner, operand_at, call_at, called_at, unary_at, level_at, compared_at, comparison_at, denial_at, else_at, then_at, whole_at};
-ghost use Rattle.svc_expr.specs.Small.{fit, part_of, Gives};
+ghost use Rattle.svc_expr.specs.SizedExpr.{fit, part_of, Gives};
 
 use crate::leaves::{behind_dash, member_call, quoted};
 use crate::level::{Form, Level};
 use crate::operators::{call_of, joins, place_of};
 use crate::parts::{choice, form, name, pair, positive};
-use crate::small::{ReadError, Small};
+use crate::sized_expr::{ReadError, SizedExpr};
 use std::alloc::Global;
 use svc_token::{Keyword, Token};
 use svc_value::Name;
@@ -21,7 +21,7 @@ fn enter<'a, 't>(
     level: Level,
     room: u32,
     rest: &'a [Token<'t>],
-) -> Result<(Option<Small>, &'a [Token<'t>]), ReadError>
+) -> Result<(Option<SizedExpr>, &'a [Token<'t>]), ReadError>
     ensures { Gives (λ x. (part_of x.0, x.1.now)) result ((inner fit (naming fit names.now) room).enter level rest.now) }
 {
     if room == 0 {
@@ -38,7 +38,7 @@ pub(crate) fn read<'a, 't>(
     level: Level,
     room: u32,
     rest: &'a [Token<'t>],
-) -> Result<(Option<Small>, &'a [Token<'t>]), ReadError>
+) -> Result<(Option<SizedExpr>, &'a [Token<'t>]), ReadError>
     ensures { Gives (λ x. (part_of x.0, x.1.now)) result (level_at fit (naming fit names.now) (inner fit (naming fit names.now) room) level rest.now) }
 {
     match level {
@@ -61,7 +61,7 @@ fn operand<'a, 't>(
     names: &[Name],
     room: u32,
     rest: &'a [Token<'t>],
-) -> Result<(Option<Small>, &'a [Token<'t>]), ReadError>
+) -> Result<(Option<SizedExpr>, &'a [Token<'t>]), ReadError>
     ensures { Gives (λ x. (part_of x.0, x.1.now)) result (operand_at fit (naming fit names.now) (inner fit (naming fit names.now) room) rest.now) }
 {
     let [first, after @ ..] = rest else {
@@ -95,7 +95,7 @@ fn call<'a, 't>(
     keyword: Keyword,
     room: u32,
     rest: &'a [Token<'t>],
-) -> Result<(Option<Small>, &'a [Token<'t>]), ReadError>
+) -> Result<(Option<SizedExpr>, &'a [Token<'t>]), ReadError>
     ensures { Gives (λ x. (part_of x.0, x.1.now)) result (call_at fit (naming fit names.now) (inner fit (naming fit names.now) room) keyword rest.now) }
 {
     match rest {
@@ -112,7 +112,7 @@ fn called<'a, 't>(
     keyword: Keyword,
     room: u32,
     rest: &'a [Token<'t>],
-) -> Result<(Option<Small>, &'a [Token<'t>]), ReadError>
+) -> Result<(Option<SizedExpr>, &'a [Token<'t>]), ReadError>
     ensures { Gives (λ x. (part_of x.0, x.1.now)) result (called_at fit (naming fit names.now) (inner fit (naming fit names.now) room) (call_of keyword) (aggregate_of keyword) rest.now) }
 {
     let Some(call) = call_of(keyword) else {
@@ -133,7 +133,7 @@ fn unary<'a, 't>(
     names: &[Name],
     room: u32,
     rest: &'a [Token<'t>],
-) -> Result<(Option<Small>, &'a [Token<'t>]), ReadError>
+) -> Result<(Option<SizedExpr>, &'a [Token<'t>]), ReadError>
     ensures { Gives (λ x. (part_of x.0, x.1.now)) result (unary_at fit (naming fit names.now) (inner fit (naming fit names.now) room) rest.now) }
 {
     match rest {
@@ -153,7 +153,7 @@ fn side<'a, 't>(
     level: Level,
     room: u32,
     rest: &'a [Token<'t>],
-) -> Result<(Option<Small>, &'a [Token<'t>]), ReadError>
+) -> Result<(Option<SizedExpr>, &'a [Token<'t>]), ReadError>
     requires { IsLeft level }
     ensures { Gives (λ x. (part_of x.0, x.1.now)) result (level_at fit (naming fit names.now) (inner fit (naming fit names.now) room) (tighter level) rest.now) }
 {
@@ -168,7 +168,7 @@ fn left<'a, 't>(
     level: Level,
     room: u32,
     text: &'a [Token<'t>],
-) -> Result<(Option<Small>, &'a [Token<'t>]), ReadError>
+) -> Result<(Option<SizedExpr>, &'a [Token<'t>]), ReadError>
     requires { IsLeft level }
     ensures { Gives (λ x. (part_of x.0, x.1.now)) result (level_at fit (naming fit names.now) (inner fit (naming fit names.now) room) level text.now) }
 {
@@ -195,7 +195,7 @@ fn comparison<'a, 't>(
     names: &[Name],
     room: u32,
     rest: &'a [Token<'t>],
-) -> Result<(Option<Small>, &'a [Token<'t>]), ReadError>
+) -> Result<(Option<SizedExpr>, &'a [Token<'t>]), ReadError>
     ensures { Gives (λ x. (part_of x.0, x.1.now)) result (comparison_at fit (naming fit names.now) (inner fit (naming fit names.now) room) rest.now) }
 {
     let (part, rest) = left(alloc, names, Level::Sum, room, rest)?;
@@ -217,7 +217,7 @@ fn denial<'a, 't>(
     names: &[Name],
     room: u32,
     rest: &'a [Token<'t>],
-) -> Result<(Option<Small>, &'a [Token<'t>]), ReadError>
+) -> Result<(Option<SizedExpr>, &'a [Token<'t>]), ReadError>
     ensures { Gives (λ x. (part_of x.0, x.1.now)) result (denial_at fit (naming fit names.now) (inner fit (naming fit names.now) room) rest.now) }
 {
     match rest {
@@ -237,7 +237,7 @@ fn whole<'a, 't>(
     names: &[Name],
     room: u32,
     rest: &'a [Token<'t>],
-) -> Result<(Option<Small>, &'a [Token<'t>]), ReadError>
+) -> Result<(Option<SizedExpr>, &'a [Token<'t>]), ReadError>
     ensures { Gives (λ x. (part_of x.0, x.1.now)) result (whole_at fit (naming fit names.now) (inner fit (naming fit names.now) room) rest.now) }
 {
     let [Token::Keyword(Keyword::If), after @ ..] = rest else {
@@ -253,9 +253,9 @@ fn behind_if<'a, 't>(
     alloc: Global,
     names: &[Name],
     room: u32,
-    c: Option<Small>,
+    c: Option<SizedExpr>,
     rest: &'a [Token<'t>],
-) -> Result<(Option<Small>, &'a [Token<'t>]), ReadError>
+) -> Result<(Option<SizedExpr>, &'a [Token<'t>]), ReadError>
     ensures { Gives (λ x. (part_of x.0, x.1.now)) result (then_at fit (naming fit names.now) (inner fit (naming fit names.now) room) (part_of c) rest.now) }
 {
     let [Token::Keyword(Keyword::Then), after @ ..] = rest else {
@@ -271,10 +271,10 @@ fn behind_then<'a, 't>(
     alloc: Global,
     names: &[Name],
     room: u32,
-    c: Option<Small>,
-    a: Option<Small>,
+    c: Option<SizedExpr>,
+    a: Option<SizedExpr>,
     rest: &'a [Token<'t>],
-) -> Result<(Option<Small>, &'a [Token<'t>]), ReadError>
+) -> Result<(Option<SizedExpr>, &'a [Token<'t>]), ReadError>
     ensures { Gives (λ x. (part_of x.0, x.1.now)) result (else_at fit (naming fit names.now) (inner fit (naming fit names.now) room) (part_of c) (part_of a) rest.now) }
 {
     let [Token::Keyword(Keyword::Else), after @ ..] = rest else {

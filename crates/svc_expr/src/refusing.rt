@@ -1,11 +1,11 @@
-// Want of memory while tokens are read.
+// Out of memory while tokens are read.
 use crate::ExprError;
-use crate::small::ReadError;
+use crate::sized_expr::ReadError;
 use std::alloc::{AllocError, AllocFailed};
 use svc_value::OutOfMemory;
 
 impl From<AllocError> for ReadError {
-    ghost use Rattle.svc_expr.specs.declared.small.ReadError.TheVariants.{Memory};
+    ghost use Rattle.svc_expr.specs.declared.sized_expr.ReadError.TheVariants.{Memory};
     ghost use Rattle.std.specs.Prelude.{◌≡◌};
 
     ghost from_gives = { λ _ e. e ≡ Memory };
@@ -16,7 +16,7 @@ impl From<AllocError> for ReadError {
 }
 
 impl From<OutOfMemory> for ReadError {
-    ghost use Rattle.svc_expr.specs.declared.small.ReadError.TheVariants.{Memory};
+    ghost use Rattle.svc_expr.specs.declared.sized_expr.ReadError.TheVariants.{Memory};
     ghost use Rattle.std.specs.Prelude.{◌≡◌};
 
     ghost from_gives = { λ _ e. e ≡ Memory };
@@ -27,7 +27,7 @@ impl From<OutOfMemory> for ReadError {
 }
 
 impl From<ReadError> for ExprError {
-    ghost use Rattle.svc_expr.specs.Small.{error_of};
+    ghost use Rattle.svc_expr.specs.SizedExpr.{error_of};
     ghost use Rattle.std.specs.Prelude.{◌≡◌};
 
     ghost from_gives = { λ read e. e ≡ error_of read };

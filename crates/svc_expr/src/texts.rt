@@ -1,6 +1,6 @@
 // Texts: as one, their numbers of characters, the whole numbers that they spell, and the decimal text of a number.
 ghost use Rattle.std.specs.Prelude.{◌≡◌, ◌≤◌, true, length, IfOk, OnErr};
-ghost use Rattle.svc_expr.specs.Meaning.{characters, is_join, joined, number_or_fault, of_texts, signed_number};
+ghost use Rattle.svc_expr.specs.Meaning.{characters, is_join, concatenation, number_or_fault, of_texts, signed_number};
 ghost use Rattle.std.specs.Fmt.{signed_decimal};
 ghost use Rattle.svc_value.specs.declared.value.Value.TheVariants.{Words};
 
@@ -8,7 +8,7 @@ use crate::Op;
 use crate::numbers::compare;
 use itoa::Buffer;
 use std::alloc::Global;
-use svc_value::{Fault, LONGEST_TEXT, OutOfMemory, TextError, Value, ValueText};
+use svc_value::{Fault, MAX_TEXT_LEN, OutOfMemory, TextError, Value, ValueText};
 
 fn stored(alloc: Global, text: &str) -> Result<Value, OutOfMemory>
     requires { length text.now ≤ 256 }
@@ -21,9 +21,9 @@ fn stored(alloc: Global, text: &str) -> Result<Value, OutOfMemory>
 }
 
 fn join(alloc: Global, x: &str, y: &str) -> Result<Value, OutOfMemory>
-    ensures { IfOk result (λ value. value ≡ joined x.now y.now) }
+    ensures { IfOk result (λ value. value ≡ concatenation x.now y.now) }
 {
-    if x.len() > LONGEST_TEXT || y.len() > LONGEST_TEXT - x.len() {
+    if x.len() > MAX_TEXT_LEN || y.len() > MAX_TEXT_LEN - x.len() {
         return Ok(Value::Bad(Fault::Long));
     }
     let mut text = String::with_capacity(alloc, x.len() + y.len())?;

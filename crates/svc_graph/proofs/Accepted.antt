@@ -3,10 +3,10 @@ use Rattle.std.proofs.Common.{◌≡◌, ℕ, ◌+◌, ◌<◌, ◌≤◌, Bool,
 use Rattle.std.proofs.lemmas.Bool.{leb-false, ltb-false, ltb-true}
 use Rattle.std.specs.List.{list_any}
 use Rattle.propagation.proofs.Lists.{Has-append_cases, Has-append_left, Has-append_right}
-use Rattle.propagation.specs.Words.{Apart, Has, is_among}
+use Rattle.propagation.specs.Lists.{AreDistinct, Has, is_among}
 use Rattle.svc_expr.specs.Tree.{tree_of}
 use Rattle.svc_expr.specs.Types.{is_same, takes_numbers, type_in}
-use Rattle.svc_graph.proofs.Apart.{or_left, or_right, Has-list_any, not_among, Apart-append, Apart-left, Apart-right, Apart-disjoint, Has-filter, Apart-filter, Apart-repeats}
+use Rattle.svc_graph.proofs.AreDistinct.{or_left, or_right, Has-list_any, not_among, AreDistinct-append, AreDistinct-left, AreDistinct-right, AreDistinct-disjoint, Has-filter, AreDistinct-filter, AreDistinct-repeats}
 use Rattle.svc_graph.specs.Accepting.{HasForm, IsProper, IsWritten}
 use Rattle.svc_graph.specs.Book.{IsBelow, IsDefinitionOf, IsFormulaOf}
 use Rattle.svc_graph.specs.declared.definition.Change.{Change}
@@ -17,8 +17,8 @@ use Rattle.svc_graph.specs.declared.definition.Formula.{Formula}
 use Rattle.svc_graph.specs.declared.errors.ChangeError.{ChangeError}
 use Rattle.svc_graph.specs.declared.errors.ChangeError.TheVariants.{Unknown, RankNotLower, WrongType, TooMany, NotInput, NotDerived, Already, NotMember}
 use Rattle.svc_graph.specs.declared.kind.Kind.{Kind}
-use Rattle.svc_graph.specs.History.{brought, next_definition}
-use Rattle.svc_graph.specs.Refusals.{any_named, brings_again, changes_input, drops_other, has_too_many, has_wrong_type, is_derived, is_high, is_ill_typed, is_large, is_text, is_type, is_unknown, kind_at, names_high, names_unknown, refused, repeats, sets_derived}
+use Rattle.svc_graph.specs.History.{definitions_brought, next_definition}
+use Rattle.svc_graph.specs.Refusals.{any_named, brings_again, changes_input, drops_other, has_too_many, has_wrong_type, is_derived, is_high, is_ill_typed, is_large, is_text, is_type, is_unknown, kind_at, names_high, names_unknown, first_error, repeats, sets_derived}
 use Rattle.svc_value.specs.Value.{has_type}
 use Rattle.svc_value.specs.declared.value.Value.{Value}
 use Rattle.svc_value.specs.declared.value.ValueType.{ValueType}
@@ -102,7 +102,7 @@ first_false : (b : Bool) (e : ChangeError) (o : Option ChangeError) → (if b th
 first_false true e o h = cc
 first_false false e o h = (refl, h)
 
-passed : (kinds : List Kind) (n : ℕ) (last : Option Definition) (change : Change) → refused kinds n last change ≡ None → Passed kinds n last change
+passed : (kinds : List Kind) (n : ℕ) (last : Option Definition) (change : Change) → first_error kinds n last change ≡ None → Passed kinds n last change
 passed kinds n last change h =
     let h1 = first_false (names_unknown kinds n change) Unknown _ h in
     let h2 = first_false (names_high kinds n change) RankNotLower _ h1.1 in
@@ -122,7 +122,7 @@ formula-passed : (kinds : List Kind) (n : ℕ) (formula : Formula) → IsWritten
 formula-passed kinds n formula written known high typed large again =
     record {
       written = written;
-      apart = Apart-repeats formula.fixed formula.members written.apart again;
+      apart = AreDistinct-repeats formula.fixed formula.members written.apart again;
       few = rw length-append (ltb-false 16 (length formula.fixed + length formula.members) large);
       below = λ p has. record {
         declared = leb-false (length kinds) p (known p has);
@@ -155,8 +155,8 @@ formula-added : (kinds : List Kind) (n : ℕ) (formula : Formula) (member : ℕ)
 formula-added kinds n formula member h test =
     record {
       written = record { small = h.written.small; names = h.written.names; apart = h.written.apart };
-      apart = subst Apart (append_assoc formula.fixed formula.members (member ∷ []))
-          (Apart-append (formula.fixed ++ formula.members) (member ∷ []) h.apart ((λ none. none), tt) (λ q left right. apart q left right));
+      apart = subst AreDistinct (append_assoc formula.fixed formula.members (member ∷ []))
+          (AreDistinct-append (formula.fixed ++ formula.members) (member ∷ []) h.apart ((λ none. none), tt) (λ q left right. apart q left right));
       few = subst (λ ps. length ps ≤ 16) (append_assoc formula.fixed formula.members (member ∷ [])) (rw length-append room);
       below = λ p has. elim (added-cases formula member p has) [
         | inl there ↦ h.below p there
@@ -204,8 +204,8 @@ formula-dropped : (kinds : List Kind) (n : ℕ) (formula : Formula) (keeps : ℕ
 formula-dropped kinds n formula keeps h =
     record {
       written = record { small = h.written.small; names = h.written.names; apart = h.written.apart };
-      apart = Apart-append formula.fixed (filter keeps formula.members) (Apart-left formula.fixed formula.members h.apart) (Apart-filter keeps formula.members (Apart-right formula.fixed formula.members h.apart))
-          (λ q left right. Apart-disjoint formula.fixed formula.members h.apart q left (Has-filter keeps formula.members q right));
+      apart = AreDistinct-append formula.fixed (filter keeps formula.members) (AreDistinct-left formula.fixed formula.members h.apart) (AreDistinct-filter keeps formula.members (AreDistinct-right formula.fixed formula.members h.apart))
+          (λ q left right. AreDistinct-disjoint formula.fixed formula.members h.apart q left (Has-filter keeps formula.members q right));
       few = rw length-append (omega (arith, filter-short keeps formula.members, length-append formula.fixed formula.members, h.few));
       below = λ p has. elim (Has-append_cases formula.fixed (filter keeps formula.members) p has) [
         | inl left ↦ h.below p (Has-append_left formula.fixed formula.members p left)
@@ -250,7 +250,7 @@ next-passed kinds n before (Define formula) h form test =
 
 -- what a change brings that is not refused, where the last definition is accepted
 pub brought-accepted : (kinds : List Kind) (n : ℕ) (last : Option Definition) (change : Change) → ((before : Definition) → last ≡ Some before → IsDefinitionOf kinds n before) →
-    HasForm (kind_at kinds n).rank change → refused kinds n last change ≡ None → (d : Definition) → Has (brought last change) d → IsDefinitionOf kinds n d
+    HasForm (kind_at kinds n).rank change → first_error kinds n last change ≡ None → (d : Definition) → Has (definitions_brought last change) d → IsDefinitionOf kinds n d
 brought-accepted kinds n None (Birth first) h form none d (inl same) = subst (IsDefinitionOf kinds n) same (birth-passed kinds n None first form (passed kinds n None (Birth first) none))
 brought-accepted kinds n None (Birth first) h form none d (inr never) = absurd never
 brought-accepted kinds n None (Set value) h form none d has = absurd has

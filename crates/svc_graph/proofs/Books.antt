@@ -8,7 +8,7 @@ use Rattle.svc_graph.proofs.Accepted.{IsMore, IsDefinitionOf-more}
 use Rattle.svc_expr.specs.Names.{Differ}
 use Rattle.svc_graph.specs.Book.{IsBook, IsRow}
 use Rattle.svc_graph.specs.Refusals.{kind_at}
-use Rattle.svc_graph.specs.History.{Row, kind_of, roster_of, declared_row, names_in, place_of, row_at}
+use Rattle.svc_graph.specs.History.{Row, kind_of, roster_of, declared_row, names_in, find_service, row_at}
 use Rattle.svc_value.specs.declared.value.ValueType.{ValueType}
 use Rattle.svc_value.specs.declared.value.ValueType.TheVariants.{Int}
 
@@ -30,7 +30,7 @@ IsRow-push rows row n within h =
     record { rank = h.rank; clock = h.clock; definitions = λ d has. IsDefinitionOf-more (IsMore-push rows row) n d (rw length-map within) (h.definitions d has) }
 
 -- a book with one service more, whose name is new
-pub IsBook-push : (rows : List Row) (name : List ℕ) (rank : ℕ) (ty : ValueType) → IsBook rows → is_some (place_of rows name) ≡ false → length rows < 64 → rank ≤ 1000 →
+pub IsBook-push : (rows : List Row) (name : List ℕ) (rank : ℕ) (ty : ValueType) → IsBook rows → is_some (find_service rows name) ≡ false → length rows < 64 → rank ≤ 1000 →
     IsBook (rows ++ declared_row name rank ty ∷ [])
 IsBook-push rows name rank ty h new room low =
     record {

@@ -4,7 +4,7 @@ use Rattle.std.proofs.lemmas.Bool.{cases_eq}
 use Rattle.std.proofs.Math.ListN.{get_or-map}
 use Rattle.std.proofs.lemmas.Option.{slice_get-get_or}
 use Rattle.propagation.proofs.Lists.{Has-append_cases}
-use Rattle.propagation.specs.Words.{Has}
+use Rattle.propagation.specs.Lists.{Has}
 use Rattle.svc_graph.proofs.Accepted.{brought-accepted}
 use Rattle.svc_graph.specs.Accepting.{HasForm, IsChangeOf}
 use Rattle.svc_expr.specs.Names.{Differ}
@@ -13,33 +13,33 @@ use Rattle.svc_graph.specs.declared.definition.Change.{Change}
 use Rattle.svc_graph.specs.declared.definition.Change.TheVariants.{Birth, Set, Add, Drop, Define}
 use Rattle.svc_graph.specs.declared.definition.Definition.{Definition}
 use Rattle.svc_graph.specs.declared.kind.Kind.{Kind}
-use Rattle.svc_graph.specs.History.{Row, brought, changed, declared_row, grown, kind_of, names_in, present, roster_of, row_at}
-use Rattle.svc_graph.specs.Refusals.{kind_at, refusal_of, refused}
+use Rattle.svc_graph.specs.History.{Row, definitions_brought, rows_after_change, declared_row, row_after, kind_of, names_in, present, roster_of, row_at}
+use Rattle.svc_graph.specs.Refusals.{kind_at, refusal_of, first_error}
 use Rattle.svc_value.specs.declared.value.ValueType.TheVariants.{Int}
 
-pub length-changed : (rows : List Row) (n : ℕ) (change : Change) → length (changed rows n change) ≡ length rows
+pub length-changed : (rows : List Row) (n : ℕ) (change : Change) → length (rows_after_change rows n change) ≡ length rows
 length-changed [] n change = refl
 length-changed (row ∷ rows) zero change = refl
 length-changed (row ∷ rows) (suc n) change = ap suc (length-changed rows n change)
 
-pub roster_of-changed : (rows : List Row) (n : ℕ) (change : Change) → roster_of (changed rows n change) ≡ roster_of rows
+pub roster_of-changed : (rows : List Row) (n : ℕ) (change : Change) → roster_of (rows_after_change rows n change) ≡ roster_of rows
 roster_of-changed [] n change = refl
 roster_of-changed (row ∷ rows) zero change = refl
 roster_of-changed (row ∷ rows) (suc n) change = ap (λ kinds. kind_of row ∷ kinds) (roster_of-changed rows n change)
 
-pub names_in-changed : (rows : List Row) (n : ℕ) (change : Change) → names_in (changed rows n change) ≡ names_in rows
+pub names_in-changed : (rows : List Row) (n : ℕ) (change : Change) → names_in (rows_after_change rows n change) ≡ names_in rows
 names_in-changed [] n change = refl
 names_in-changed (row ∷ rows) zero change = refl
 names_in-changed (row ∷ rows) (suc n) change = ap (λ names. row.name ∷ names) (names_in-changed rows n change)
 
 -- the row of the service grows
-pub row_at-changed : (rows : List Row) (n : ℕ) (change : Change) → n < length rows → row_at (changed rows n change) n ≡ grown (row_at rows n) change
+pub row_at-changed : (rows : List Row) (n : ℕ) (change : Change) → n < length rows → row_at (rows_after_change rows n change) n ≡ row_after (row_at rows n) change
 row_at-changed [] n change within = absurd (omega arith)
 row_at-changed (row ∷ rows) zero change within = refl
 row_at-changed (row ∷ rows) (suc n) change within = row_at-changed rows n change (omega arith)
 
 -- every other row stays
-pub row_at-changed_other : (rows : List Row) (n m : ℕ) (change : Change) → m ≢ n → row_at (changed rows n change) m ≡ row_at rows m
+pub row_at-changed_other : (rows : List Row) (n m : ℕ) (change : Change) → m ≢ n → row_at (rows_after_change rows n change) m ≡ row_at rows m
 row_at-changed_other [] n m change other = refl
 row_at-changed_other (row ∷ rows) zero zero change other = absurd (other refl)
 row_at-changed_other (row ∷ rows) zero (suc m) change other = refl
@@ -47,7 +47,7 @@ row_at-changed_other (row ∷ rows) (suc n) zero change other = refl
 row_at-changed_other (row ∷ rows) (suc n) (suc m) change other = row_at-changed_other rows n m change (λ same. other (ap suc same))
 
 -- a change brings at most one definition
-length-brought : (last : Option Definition) (change : Change) → length (brought last change) ≤ 1
+length-brought : (last : Option Definition) (change : Change) → length (definitions_brought last change) ≤ 1
 length-brought None (Birth first) = omega arith
 length-brought None (Set value) = omega arith
 length-brought None (Add member) = omega arith
@@ -75,31 +75,31 @@ kind_at-roster rows n = get_or-map kind_of rows n (declared_row [] 0 Int)
 
 -- the row of a service after an accepted change of it
 grown-row : (kinds : List Kind) (n : ℕ) (row : Row) (change : Change) → IsRow kinds n row → HasForm (kind_at kinds n).rank change → length row.history < 1024000 →
-    refused kinds n (present row.history) change ≡ None → IsRow kinds n (grown row change)
+    first_error kinds n (present row.history) change ≡ None → IsRow kinds n (row_after row change)
 grown-row kinds n row change h form room none =
     record {
       rank = h.rank;
       clock = rw length-append (omega (arith, length-brought (present row.history) change));
-      definitions = λ d has. elim (Has-append_cases row.history (brought (present row.history) change) d has) [
+      definitions = λ d has. elim (Has-append_cases row.history (definitions_brought (present row.history) change) d has) [
         | inl before ↦ h.definitions d before
         | inr new ↦ brought-accepted kinds n (present row.history) change (λ last at. h.definitions last (Has-slice_get row.history (length row.history - 1) last at)) form none d new
       ];
     }
 
 -- a book after an accepted change is one
-pub IsBook-changed : (rows : List Row) (n : ℕ) (change : Change) → IsBook rows → IsChangeOf rows n change → refusal_of rows n change ≡ None → IsBook (changed rows n change)
+pub IsBook-changed : (rows : List Row) (n : ℕ) (change : Change) → IsBook rows → IsChangeOf rows n change → refusal_of rows n change ≡ None → IsBook (rows_after_change rows n change)
 IsBook-changed rows n change h can none =
     record {
       few = rw (length-changed rows n change) h.few;
       names = subst Differ (sym (names_in-changed rows n change)) h.names;
-      each = λ m within. subst (λ kinds. IsRow kinds m (row_at (changed rows n change) m)) (sym (roster_of-changed rows n change)) (each m (rw length-changed at within));
+      each = λ m within. subst (λ kinds. IsRow kinds m (row_at (rows_after_change rows n change) m)) (sym (roster_of-changed rows n change)) (each m (rw length-changed at within));
     }
   where
-    each : (m : ℕ) → m < length rows → IsRow (roster_of rows) m (row_at (changed rows n change) m)
+    each : (m : ℕ) → m < length rows → IsRow (roster_of rows) m (row_at (rows_after_change rows n change) m)
     each m within =
         elim (cases_eq m n) [
           | inl same ↦
-              subst (λ k. IsRow (roster_of rows) k (row_at (changed rows n change) k)) (sym same) (subst (IsRow (roster_of rows) n) (sym (row_at-changed rows n change can.declared))
+              subst (λ k. IsRow (roster_of rows) k (row_at (rows_after_change rows n change) k)) (sym same) (subst (IsRow (roster_of rows) n) (sym (row_at-changed rows n change can.declared))
               (grown-row (roster_of rows) n (row_at rows n) change (h.each n can.declared) (subst (λ kind. HasForm kind.rank change) (sym (kind_at-roster rows n)) can.form) can.clock none))
           | inr other ↦ subst (IsRow (roster_of rows) m) (sym (row_at-changed_other rows n m change other)) (h.each m within)
         ]

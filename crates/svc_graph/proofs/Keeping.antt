@@ -13,7 +13,7 @@ use Rattle.svc_graph.specs.declared.definition.Change.TheVariants.{Add, Drop}
 use Rattle.svc_graph.specs.declared.history.Body.{Body}
 use Rattle.svc_graph.specs.declared.history.Version.{Version}
 use Rattle.svc_graph.specs.declared.history.Version.TheVariants.{Input, Derived}
-use Rattle.svc_graph.specs.History.{at_clock, present, brought, next_definition}
+use Rattle.svc_graph.specs.History.{at_clock, present, definitions_brought, next_definition}
 use Rattle.svc_graph.specs.Versions.{with_members, definition_of, definitions, is_within, HasBodies, with_member, without_member}
 
 -- a version with a body that is there stands for the same definition beside one body more
@@ -102,11 +102,11 @@ present-last bodies versions last h = present-definitions bodies versions ∙ ap
 -- the definitions after a version that a change makes of the last one
 pub definitions-changed : (bodies : List Body) (versions : List Version) (last version : Version) (change : Change) →
     slice_get versions (length versions - 1) ≡ Some last → definition_of bodies version ≡ next_definition (definition_of bodies last) change →
-    definitions bodies (versions ++ version ∷ []) ≡ definitions bodies versions ++ brought (present (definitions bodies versions)) change
+    definitions bodies (versions ++ version ∷ []) ≡ definitions bodies versions ++ definitions_brought (present (definitions bodies versions)) change
 definitions-changed bodies versions last version change at next =
     map-append (definition_of bodies) versions (version ∷ []) ∙
     (λ i. definitions bodies versions ++ next i ∷ []) ∙
-    (λ i. definitions bodies versions ++ brought (sym (present-last bodies versions last at) i) change)
+    (λ i. definitions bodies versions ++ definitions_brought (sym (present-last bodies versions last at) i) change)
 
 -- the version before a clock is the definition at it
 pub at_clock-definitions : (bodies : List Body) (versions : List Version) (clock k : ℕ) (version : Version) → 1 ≤ clock → k ≡ clock - 1 → k < length versions → version ≡ get_or versions k version →

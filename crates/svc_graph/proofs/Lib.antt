@@ -1,5 +1,5 @@
 pub mod Accepted
-pub mod Apart
+pub mod AreDistinct
 pub mod Books
 pub mod Changed
 pub mod Forming

@@ -1,5 +1,5 @@
 -- Small facts on lists and tests.
-use Rattle.propagation.specs.Words.{Has, is_among}
+use Rattle.propagation.specs.Lists.{Has, is_among}
 use Rattle.std.proofs.lemmas.List.FromFn.{map-range_with_len_more}
 use Rattle.std.specs.List.{list_any, range_with_len}
 use Rattle.std.specs.Prelude.{Result, Ok, Err, OnErr}

@@ -9,7 +9,7 @@ use Rattle.std.specs.String.{string_bytes, string_eq}
 use Rattle.std.specs.declared.string.String.{String}
 use Rattle.indexmap.specs.IndexSet.{insert_key}
 use Rattle.propagation.proofs.Lists.{Has-append_cases}
-use Rattle.propagation.specs.Words.{Has}
+use Rattle.propagation.specs.Lists.{Has}
 use Rattle.svc_expr.specs.Names.{Differ}
 use Rattle.svc_graph.specs.Columns.{bytes_of}
 

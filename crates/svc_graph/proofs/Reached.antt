@@ -10,7 +10,7 @@ use Rattle.std.specs.List.{range_with_len}
 use Rattle.propagation.proofs.Edges.{Has-is_among, is_among-Has}
 use Rattle.propagation.specs.History.{Reach, deps, now}
 use Rattle.propagation.specs.Stamps.{Rise}
-use Rattle.propagation.specs.Words.{Has, is_among}
+use Rattle.propagation.specs.Lists.{Has, is_among}
 use Rattle.std.proofs.lemmas.List.Elements.{filter-append}
 use Rattle.std.specs.Cmp.Derive.{both_true}
 use Rattle.svc_graph.proofs.Lists.{and_left, and_right, is_among_append, get_or-Has, range_with_len-more}

@@ -13,7 +13,7 @@ use Rattle.svc_graph.specs.Book.{IsBook}
 use Rattle.svc_graph.specs.Columns.{bytes_of, rows_of, AreColumns}
 use Rattle.svc_graph.specs.declared.definition.Definition.{Definition}
 use Rattle.svc_graph.specs.declared.kind.Kind.{Kind}
-use Rattle.svc_graph.specs.Rewound.{rewound, shortened}
+use Rattle.svc_graph.specs.Rewound.{rewound_rows, shortened}
 
 -- ---- versions that are cut
 
@@ -55,7 +55,7 @@ length-shortened (history ∷ histories) [] = refl
 length-shortened (history ∷ histories) (clock ∷ clocks) = ap suc (length-shortened histories clocks)
 
 -- the rows of columns that are cut
-pub rows_of-cut : (names : List (List ℕ)) (kinds : List Kind) (histories : List (List Definition)) (clocks : List ℕ) → rows_of (take (length clocks) names) (take (length clocks) kinds) (shortened (take (length clocks) histories) clocks) ≡ rewound (rows_of names kinds histories) clocks
+pub rows_of-cut : (names : List (List ℕ)) (kinds : List Kind) (histories : List (List Definition)) (clocks : List ℕ) → rows_of (take (length clocks) names) (take (length clocks) kinds) (shortened (take (length clocks) histories) clocks) ≡ rewound_rows (rows_of names kinds histories) clocks
 rows_of-cut [] kinds histories [] = refl
 rows_of-cut [] kinds histories (clock ∷ clocks) = refl
 rows_of-cut (name ∷ names) [] histories [] = refl
@@ -82,10 +82,10 @@ pub bytes_of-take : {Z : Type 0} (texts some : List (String Z)) (clocks : List �
 bytes_of-take texts some clocks is = ap bytes_of is ∙ sym (take-map string_bytes (length clocks) texts)
 
 module _ (names some_names : List (List ℕ)) (kinds some_kinds : List Kind) (histories some all : List (List Definition)) (clocks : List ℕ) (h : AreColumns names kinds histories) (names_is : some_names ≡ take (length clocks) names) (kinds_is : some_kinds ≡ take (length clocks) kinds) (some_is : some ≡ shortened (take (length clocks) histories) clocks) (all_is : all ≡ some) where
-  pub rows-cut : rows_of some_names some_kinds all ≡ rewound (rows_of names kinds histories) clocks
+  pub rows-cut : rows_of some_names some_kinds all ≡ rewound_rows (rows_of names kinds histories) clocks
   rows-cut = (λ i. rows_of (names_is i) (kinds_is i) ((all_is ∙ some_is) i)) ∙ rows_of-cut names kinds histories clocks
 
-  pub columns-cut : IsBook (rewound (rows_of names kinds histories) clocks) → AreColumns some_names some_kinds all
+  pub columns-cut : IsBook (rewound_rows (rows_of names kinds histories) clocks) → AreColumns some_names some_kinds all
   columns-cut book = record {
     kinds_len = ap length kinds_is ∙ take-same kinds names (length clocks) h.kinds_len ∙ sym (ap length names_is);
     histories_len = ap length (all_is ∙ some_is) ∙ length-shortened histories clocks ∙ take-same histories names (length clocks) h.histories_len ∙ sym (ap length names_is);

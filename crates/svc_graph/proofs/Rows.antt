@@ -10,7 +10,7 @@ use Rattle.svc_graph.specs.declared.definition.Change.{Change}
 use Rattle.svc_graph.specs.declared.definition.Definition.{Definition}
 use Rattle.svc_graph.specs.declared.kind.Kind.{Kind}
 use Rattle.svc_value.specs.declared.value.ValueType.TheVariants.{Int}
-use Rattle.svc_graph.specs.History.{Row, kind_of, brought, changed, present, row_at, names_in, place_of, roster_of, declared_row}
+use Rattle.svc_graph.specs.History.{Row, kind_of, definitions_brought, rows_after_change, present, row_at, names_in, find_service, roster_of, declared_row}
 
 -- the row of a service that is not declared
 abbrev nobody : Row
@@ -47,7 +47,7 @@ histories_in-rows_of (name ∷ names) (kind ∷ kinds) [] k h = absurd (omega ar
 histories_in-rows_of (name ∷ names) (kind ∷ kinds) (history ∷ histories) k h = ap (λ all. history ∷ all) (histories_in-rows_of names kinds histories (omega arith) (omega arith))
 
 pub place_of-rows_of : (names : List (List ℕ)) (kinds : List Kind) (histories : List (List Definition)) (text : List ℕ) → length kinds ≡ length names → length histories ≡ length names →
-    place_of (rows_of names kinds histories) text ≡ position (bytes_eq text) names
+    find_service (rows_of names kinds histories) text ≡ position (bytes_eq text) names
 place_of-rows_of names kinds histories text k h =
     ap (position (bytes_eq text)) (names_in-rows_of names kinds histories k h)
 
@@ -64,12 +64,12 @@ rows_of-push (first ∷ names) (other ∷ kinds) (history ∷ histories) name ki
 
 -- a row with a change
 pub rows_of-changed : (names : List (List ℕ)) (kinds : List Kind) (histories : List (List Definition)) (n : ℕ) (history : List Definition) (change : Change) → length kinds ≡ length names → length histories ≡ length names →
-    n < length names → history ≡ get_or histories n history → rows_of names kinds (set histories n (history ++ brought (present history) change)) ≡ changed (rows_of names kinds histories) n change
+    n < length names → history ≡ get_or histories n history → rows_of names kinds (set histories n (history ++ definitions_brought (present history) change)) ≡ rows_after_change (rows_of names kinds histories) n change
 rows_of-changed [] kinds histories n history change k h within read = absurd (omega arith)
 rows_of-changed (name ∷ names) [] histories n history change k h within read = absurd (omega arith)
 rows_of-changed (name ∷ names) (kind ∷ kinds) [] n history change k h within read = absurd (omega arith)
 rows_of-changed (name ∷ names) (kind ∷ kinds) (first ∷ histories) zero history change k h within read =
-    λ i. record { name = name; rank = kind.rank; ty = kind.ty; history = read i ++ brought (present (read i)) change } ∷ rows_of names kinds histories
+    λ i. record { name = name; rank = kind.rank; ty = kind.ty; history = read i ++ definitions_brought (present (read i)) change } ∷ rows_of names kinds histories
 rows_of-changed (name ∷ names) (kind ∷ kinds) (first ∷ histories) (suc n) history change k h within read =
     ap (λ rows. record { name = name; rank = kind.rank; ty = kind.ty; history = first } ∷ rows) (rows_of-changed names kinds histories n history change (omega arith) (omega arith) (omega arith) read)
 
@@ -82,7 +82,7 @@ module _ {names : List (List ℕ)} {kinds : List Kind} {histories : List (List D
   pub roster_of-book : roster_of (rows_of names kinds histories) ≡ kinds
   roster_of-book = roster_of-rows_of names kinds histories h.kinds_len h.histories_len
 
-  pub place_of-book : (text : List ℕ) → place_of (rows_of names kinds histories) text ≡ position (bytes_eq text) names
+  pub place_of-book : (text : List ℕ) → find_service (rows_of names kinds histories) text ≡ position (bytes_eq text) names
   place_of-book text = place_of-rows_of names kinds histories text h.kinds_len h.histories_len
 
   -- the history of a service is that of its place
@@ -121,10 +121,10 @@ AreColumns-push {names} {kinds} {histories} h name kind book =
 
 -- a definition more in one history
 pub AreColumns-changed : {names : List (List ℕ)} {kinds : List Kind} {histories : List (List Definition)} → AreColumns names kinds histories → (n : ℕ) (history : List Definition) (change : Change) →
-    n < length names → history ≡ get_or histories n history → IsBook (changed (rows_of names kinds histories) n change) → AreColumns names kinds (set histories n (history ++ brought (present history) change))
+    n < length names → history ≡ get_or histories n history → IsBook (rows_after_change (rows_of names kinds histories) n change) → AreColumns names kinds (set histories n (history ++ definitions_brought (present history) change))
 AreColumns-changed {names} {kinds} {histories} h n history change within read book =
     record {
       kinds_len = h.kinds_len;
-      histories_len = length-set histories n (history ++ brought (present history) change) ∙ h.histories_len;
+      histories_len = length-set histories n (history ++ definitions_brought (present history) change) ∙ h.histories_len;
       book = rw (rows_of-changed names kinds histories n history change h.kinds_len h.histories_len within read) book;
     }

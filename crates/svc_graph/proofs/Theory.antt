@@ -2,8 +2,8 @@
 use Rattle.std.proofs.Common.{◌≡◌, ℕ, zero, suc, ◌-◌, ◌<◌, ◌≤◌, List, [], ◌∷◌, length, slice_get, Option, Some, None, refl, sym, ap, ◌∙◌, subst, inl, inr, arith}
 use Rattle.std.proofs.lemmas.Bool.{cases_lt}
 use Rattle.std.proofs.lemmas.List.{get_or_past, length-map}
-use Rattle.propagation.specs.History.{definition, deps, names_of, now}
-use Rattle.propagation.specs.Words.{Apart, Has}
+use Rattle.propagation.specs.History.{definition_at, deps, dependencies_of, now}
+use Rattle.propagation.specs.Lists.{AreDistinct, Has}
 use Rattle.svc_graph.proofs.Changed.{Has-slice_get, kind_at-roster}
 use Rattle.svc_graph.specs.Book.{IsBelow, IsBook, IsDefinitionOf}
 use Rattle.svc_graph.specs.Central.{AreBorn}
@@ -13,7 +13,7 @@ use Rattle.svc_graph.specs.History.{Row, at_clock, declared_row, dependencies, h
 use Rattle.svc_value.specs.declared.value.ValueType.TheVariants.{Int}
 
 -- the definition at a clock
-pub definition-at_clock : (rows : List Row) (n c : ℕ) → definition (theory rows) n c ≡ at_clock (history_of rows n) c
+pub definition-at_clock : (rows : List Row) (n c : ℕ) → definition_at (theory rows) n c ≡ at_clock (history_of rows n) c
 definition-at_clock rows n zero = refl
 definition-at_clock rows n (suc c) = refl
 
@@ -22,7 +22,7 @@ at_clock-length : (history : List Definition) → at_clock history (length histo
 at_clock-length [] = refl
 at_clock-length (d ∷ ds) = ap (slice_get (d ∷ ds)) (let same : length ds ≡ length (d ∷ ds) - 1 = omega arith in same)
 
-pub definition-now : (rows : List Row) (n : ℕ) → definition (theory rows) n (now (theory rows) n) ≡ present (history_of rows n)
+pub definition-now : (rows : List Row) (n : ℕ) → definition_at (theory rows) n (now (theory rows) n) ≡ present (history_of rows n)
 definition-now rows n = definition-at_clock rows n (length (history_of rows n)) ∙ at_clock-length (history_of rows n)
 
 -- a definition at a clock is one of the history
@@ -39,7 +39,7 @@ declared rows n d has =
     ]
 
 -- a definition of a book is accepted
-pub IsDefinitionOf-book : (rows : List Row) → IsBook rows → (n c : ℕ) (d : Definition) → definition (theory rows) n c ≡ Some d → (n < length rows) × IsDefinitionOf (roster_of rows) n d
+pub IsDefinitionOf-book : (rows : List Row) → IsBook rows → (n c : ℕ) (d : Definition) → definition_at (theory rows) n c ≡ Some d → (n < length rows) × IsDefinitionOf (roster_of rows) n d
 IsDefinitionOf-book rows h n c d at =
     let has = Has-at_clock (history_of rows n) c d (sym (definition-at_clock rows n c) ∙ at) in
     let within = declared rows n d has in
@@ -50,7 +50,7 @@ below-definition : (rows : List Row) (n : ℕ) (d : Definition) → IsDefinition
 below-definition rows n (Input value) h p has = absurd has
 below-definition rows n (Derived formula) h p has = h.1.below p has
 
-apart-definition : (rows : List Row) (n : ℕ) (d : Definition) → IsDefinitionOf (roster_of rows) n d → Apart (dependencies d)
+apart-definition : (rows : List Row) (n : ℕ) (d : Definition) → IsDefinitionOf (roster_of rows) n d → AreDistinct (dependencies d)
 apart-definition rows n (Input value) h = tt
 apart-definition rows n (Derived formula) h = h.1.apart
 
@@ -62,10 +62,10 @@ few-definition rows n (Derived formula) h = h.1.few
 pub record AreBelow (rows : List Row) (n : ℕ) (ps : List ℕ) : Type 0 where
   pub declared : (p : ℕ) → Has ps p → p < length rows
   pub falls : (p : ℕ) → Has ps p → (row_at rows p).rank < (row_at rows n).rank
-  pub apart : Apart ps
+  pub apart : AreDistinct ps
   pub few : length ps ≤ 16
 
-pub AreBelow-definition : (rows : List Row) → IsBook rows → (n c : ℕ) (d : Definition) → definition (theory rows) n c ≡ Some d → AreBelow rows n (dependencies d)
+pub AreBelow-definition : (rows : List Row) → IsBook rows → (n c : ℕ) (d : Definition) → definition_at (theory rows) n c ≡ Some d → AreBelow rows n (dependencies d)
 AreBelow-definition rows h n c d at =
     let fits = (IsDefinitionOf-book rows h n c d at).1 in
     record {
@@ -79,9 +79,9 @@ AreBelow-definition rows h n c d at =
     falls p b = rw (← ap (λ k. k.rank) (kind_at-roster rows p), ← ap (λ k. k.rank) (kind_at-roster rows n)) b.rank
 
 pub AreBelow-deps : (rows : List Row) → IsBook rows → (n c : ℕ) → AreBelow rows n (deps (theory rows) n c)
-AreBelow-deps rows h n c = by (definition (theory rows) n c) refl
+AreBelow-deps rows h n c = by (definition_at (theory rows) n c) refl
   where
-    by : (o : Option Definition) → definition (theory rows) n c ≡ o → AreBelow rows n (names_of (theory rows) o)
+    by : (o : Option Definition) → definition_at (theory rows) n c ≡ o → AreBelow rows n (dependencies_of (theory rows) o)
     by None at = record { declared = λ p has. absurd has; falls = λ p has. absurd has; apart = tt; few = omega arith }
     by (Some d) at = AreBelow-definition rows h n c d at
 

@@ -1,6 +1,6 @@
 -- What a change has to be before it is tested.
 use Rattle.std.specs.Prelude.{◌≡◌, ℕ, ◌<◌, List, [], length, ◌↔◌, IsTrue}
-use Rattle.propagation.specs.Words.{Apart}
+use Rattle.propagation.specs.Lists.{AreDistinct}
 use Rattle.svc_expr.specs.Tree.{tree_of, IsSmall}
 use Rattle.svc_expr.specs.Types.{name_count}
 use Rattle.svc_graph.specs.declared.definition.Change.{Change}
@@ -15,7 +15,7 @@ use Rattle.svc_value.specs.declared.value.Value.TheVariants.{Bad}
 pub record IsWritten (formula : Formula) : Type 0 where
   pub small : IsSmall (tree_of formula.expr)
   pub names : length formula.fixed ≡ name_count (tree_of formula.expr)
-  pub apart : Apart formula.fixed
+  pub apart : AreDistinct formula.fixed
 
 -- the value is no fault
 abbrev pub IsProper : Value → Type 0

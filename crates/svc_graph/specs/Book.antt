@@ -1,6 +1,6 @@
 -- What always holds of the rows of a book.
 use Rattle.std.specs.Prelude.{◌≡◌, ℕ, ◌≤◌, ◌<◌, true, List, ◌++◌, map, length, Some}
-use Rattle.propagation.specs.Words.{Apart, Has}
+use Rattle.propagation.specs.Lists.{AreDistinct, Has}
 use Rattle.svc_expr.specs.Names.{Differ}
 use Rattle.svc_expr.specs.Tree.{tree_of}
 use Rattle.svc_expr.specs.Types.{takes_numbers, type_in}
@@ -22,7 +22,7 @@ pub record IsBelow (kinds : List Kind) (n p : ℕ) : Type 0 where
 -- A formula of service n that is accepted: at most 16 dependencies, all different and below n, and every part has its type.
 pub record IsFormulaOf (kinds : List Kind) (n : ℕ) (formula : Formula) : Type 0 where
   pub written : IsWritten formula
-  pub apart : Apart (formula.fixed ++ formula.members)
+  pub apart : AreDistinct (formula.fixed ++ formula.members)
   pub few : length (formula.fixed ++ formula.members) ≤ 16
   pub below : (p : ℕ) → Has (formula.fixed ++ formula.members) p → IsBelow kinds n p
   pub typed : type_in (tree_of formula.expr) (map (λ p. (kind_at kinds p).ty) formula.fixed) ≡ Some (kind_at kinds n).ty

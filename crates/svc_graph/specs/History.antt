@@ -54,20 +54,20 @@ is_birth (Birth first) = true
 is_birth change = false
 
 -- the definition that a change brings after the last one; before there is one, only a birth brings any
-abbrev pub brought : Option Definition → Change → List Definition
-brought None (Birth first) = first ∷ []
-brought None change = []
-brought (Some last) change = next_definition last change ∷ []
+abbrev pub definitions_brought : Option Definition → Change → List Definition
+definitions_brought None (Birth first) = first ∷ []
+definitions_brought None change = []
+definitions_brought (Some last) change = next_definition last change ∷ []
 
 -- the row with the definition that the change brings
-abbrev pub grown : Row → Change → Row
-grown row change = record row { history = row.history ++ brought (present row.history) change }
+abbrev pub row_after : Row → Change → Row
+row_after row change = record row { history = row.history ++ definitions_brought (present row.history) change }
 
 -- the rows after a change of service n
-abbrev pub changed : List Row → ℕ → Change → List Row
-changed [] n change = []
-changed (row ∷ rows) zero change = grown row change ∷ rows
-changed (row ∷ rows) (suc n) change = row ∷ changed rows n change
+abbrev pub rows_after_change : List Row → ℕ → Change → List Row
+rows_after_change [] n change = []
+rows_after_change (row ∷ rows) zero change = row_after row change ∷ rows
+rows_after_change (row ∷ rows) (suc n) change = row ∷ rows_after_change rows n change
 
 -- the row of a service that is declared and has no definition yet
 abbrev pub declared_row : List ℕ → ℕ → ValueType → Row
@@ -94,8 +94,8 @@ abbrev pub names_in : List Row → List (List ℕ)
 names_in rows = map (λ row. row.name) rows
 
 -- the number of the service with this name, if it is declared
-abbrev pub place_of : List Row → List ℕ → Option ℕ
-place_of rows name = position (bytes_eq name) (names_in rows)
+abbrev pub find_service : List Row → List ℕ → Option ℕ
+find_service rows name = position (bytes_eq name) (names_in rows)
 
 -- ---- the book as the theory sees it
 
@@ -106,4 +106,4 @@ meaning_of (Derived formula) values = meaning (tree_of formula.expr) (take (leng
 
 -- the definitions of the rows, each with its dependencies and its meaning
 abbrev pub theory : List Row → Book Value Definition
-theory rows = record { names = dependencies; meaning = meaning_of; history = history_of rows }
+theory rows = record { dependencies = dependencies; meaning = meaning_of; history = history_of rows }

@@ -2,7 +2,7 @@
 -- services, of the service that is changed and of its last definition.
 use Rattle.std.specs.Prelude.{ℕ, ◌+◌, ◌==◌, Bool, false, not, ◌&&◌, ◌||◌, nat_lt, nat_le, if◌then◌else◌, List, [], ◌∷◌, map, length, slice_index_or, Option, Some, None}
 use Rattle.std.specs.List.{list_any}
-use Rattle.propagation.specs.Words.{is_among}
+use Rattle.propagation.specs.Lists.{is_among}
 use Rattle.svc_expr.specs.Tree.{tree_of}
 use Rattle.svc_expr.specs.Types.{takes_numbers, type_in, is_same}
 use Rattle.svc_graph.specs.declared.definition.Change.{Change}
@@ -135,8 +135,8 @@ drops_other kinds n last change = false
 -- ---- the refusal
 
 -- the error of the first test that holds, if one does
-abbrev pub refused : List Kind → ℕ → Option Definition → Change → Option ChangeError
-refused kinds n last change =
+abbrev pub first_error : List Kind → ℕ → Option Definition → Change → Option ChangeError
+first_error kinds n last change =
     if names_unknown kinds n change then Some Unknown
     else (if names_high kinds n change then Some RankNotLower
     else (if has_wrong_type kinds n last change then Some WrongType
@@ -149,4 +149,4 @@ refused kinds n last change =
 
 -- why a change of service n is refused where these are the rows, if it is
 abbrev pub refusal_of : List Row → ℕ → Change → Option ChangeError
-refusal_of rows n change = refused (roster_of rows) n (present (history_of rows n)) change
+refusal_of rows n change = first_error (roster_of rows) n (present (history_of rows n)) change

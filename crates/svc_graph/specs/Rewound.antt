@@ -8,10 +8,10 @@ abbrev pub clocks_of : List Row → List ℕ
 clocks_of rows = map (λ row. length row.history) rows
 
 -- of the first rows as many as there are clocks, each with its first so many definitions
-abbrev pub rewound : List Row → List ℕ → List Row
-rewound [] clocks = []
-rewound (row ∷ rows) [] = []
-rewound (row ∷ rows) (clock ∷ clocks) = record row { history = take clock row.history } ∷ rewound rows clocks
+abbrev pub rewound_rows : List Row → List ℕ → List Row
+rewound_rows [] clocks = []
+rewound_rows (row ∷ rows) [] = []
+rewound_rows (row ∷ rows) (clock ∷ clocks) = record row { history = take clock row.history } ∷ rewound_rows rows clocks
 
 -- the same of histories
 abbrev pub shortened : List (List Definition) → List ℕ → List (List Definition)

@@ -15,7 +15,7 @@ use std::marker::Model;
 use svc_value::{Clock, OutOfMemory, Rank, ServiceId, ValueType};
 
 /// The most services of a book.
-pub const MOST_SERVICES: usize = 64;
+pub const MAX_SERVICES: usize = 64;
 
 /// The services of a network: the name, the rank, the type and the accepted definitions of each. Contracts see one row for
 /// each service, in the order of declaration.
@@ -76,7 +76,7 @@ impl Book {
     ghost use Rattle.svc_graph.specs.Accepting.{IsChangeOf};
     ghost use Rattle.svc_graph.specs.Book.{IsBook};
     ghost use Rattle.svc_graph.specs.Refusals.{refusal_of};
-    ghost use Rattle.svc_graph.specs.History.{changed, declared_row, history_of, kind_of, place_of, roster_of, row_at};
+    ghost use Rattle.svc_graph.specs.History.{rows_after_change, declared_row, history_of, kind_of, find_service, roster_of, row_at};
 
     /// The book without services, which takes its memory from `alloc`.
     pub fn new(alloc: Global) -> Book
@@ -104,14 +104,14 @@ impl Book {
         ensures ok { OnOk result (self.new ≡ self.old ++ declared_row name.now rank ty ∷ []) }
 
         // The name is tested first.
-        ensures taken { IsErrOf result DeclareError.Taken ↔ IsSome (place_of self.old name.now) }
-        ensures full { IsErrOf result DeclareError.Full ↔ (IsNone (place_of self.old name.now) × (64 ≤ length self.old)) }
+        ensures taken { IsErrOf result DeclareError.Taken ↔ IsSome (find_service self.old name.now) }
+        ensures full { IsErrOf result DeclareError.Full ↔ (IsNone (find_service self.old name.now) × (64 ≤ length self.old)) }
         ensures err { OnErr result (self.new ≡ self.old) }
     {
         if self.find(name).is_some() {
             return Err(DeclareError::Taken);
         }
-        if self.len() >= MOST_SERVICES {
+        if self.len() >= MAX_SERVICES {
             return Err(DeclareError::Full);
         }
         Ok(self.append(name, Kind { rank, ty })?)
@@ -119,7 +119,7 @@ impl Book {
 
     // Appends a row without a definition.
     fn append(&mut self, name: &str, kind: Kind) -> Result<ServiceId, OutOfMemory>
-        requires new { IsNone (place_of self.old name.now) }
+        requires new { IsNone (find_service self.old name.now) }
         requires room { length self.old < 64 }
         requires rank { kind.rank ≤ 1000 }
         ensures number { IfOk result (λ id. id ≡ length self.old) }
@@ -141,7 +141,7 @@ impl Book {
     /// is dropped.
     pub fn accept(&mut self, id: ServiceId, change: Change) -> Result<(), ChangeError>
         requires { IsChangeOf self.old id change }
-        ensures ok { OnOk result (self.new ≡ changed self.old id change) }
+        ensures ok { OnOk result (self.new ≡ rows_after_change self.old id change) }
         ensures passes { OnOk result (refusal_of self.old id change ≡ None) }
         ensures refused { IfErr result (λ e. e ≢ ChangeError.OutOfMemory → refusal_of self.old id change ≡ Some e) }
         ensures err { OnErr result (self.new ≡ self.old) }
@@ -164,7 +164,7 @@ impl Book {
     fn grow(&mut self, id: ServiceId, change: Change) -> Result<(), OutOfMemory>
         requires form { IsChangeOf self.old id change }
         requires passes { refusal_of self.old id change ≡ None }
-        ensures ok { OnOk result (self.new ≡ changed self.old id change) }
+        ensures ok { OnOk result (self.new ≡ rows_after_change self.old id change) }
         ensures err { OnErr result (self.new ≡ self.old) }
     {
         let history = &mut self.histories[place(id)];
@@ -183,7 +183,7 @@ impl Book {
 
     /// The service with this name; `None` exactly where none is declared.
     pub fn find(&self, name: &str) -> Option<ServiceId>
-        ensures { result ≡ place_of self.now name.now }
+        ensures { result ≡ find_service self.now name.now }
     {
         let place = self.names.get_index_of(name)?;
         Some(ServiceId(place as u16))

@@ -1,13 +1,13 @@
 // The tests of a change, each by its own function, in the order in which they are made.
 ghost use Rattle.std.specs.Prelude.{◌≡◌, ◌<◌, ◌^◌, ◌+◌, ◌++◌, ◌==◌, ◌||◌, ◌≢◌, Bool, Option, Some, None, List, ℕ, map, length, if◌then◌else◌, IfOk, IfErr, OnOk, option_map};
 ghost use Rattle.std.specs.List.{list_any};
-ghost use Rattle.propagation.specs.Words.{is_among};
+ghost use Rattle.propagation.specs.Lists.{is_among};
 ghost use Rattle.svc_expr.specs.Tree.{tree_of, nodes};
 ghost use Rattle.svc_expr.specs.Types.{type_in};
 ghost use Rattle.svc_graph.specs.declared.errors.ChangeError.TheVariants.{OutOfMemory};
 ghost use Rattle.svc_graph.specs.Accepting.{IsSmallChange};
 ghost use Rattle.svc_graph.specs.Lent.{definition_lent};
-ghost use Rattle.svc_graph.specs.Refusals.{any_named, brings_again, changes_input, drops_other, has_too_many, has_wrong_type, is_derived, is_high, is_ill_typed, is_large, is_text, is_type, is_unknown, kind_at, last_dependencies, last_members, last_takes_numbers, names_high, names_unknown, refused, repeats, sets_derived};
+ghost use Rattle.svc_graph.specs.Refusals.{any_named, brings_again, changes_input, drops_other, has_too_many, has_wrong_type, is_derived, is_high, is_ill_typed, is_large, is_text, is_type, is_unknown, kind_at, last_dependencies, last_members, last_takes_numbers, names_high, names_unknown, first_error, repeats, sets_derived};
 
 use crate::{Change, ChangeError, Definition, DefinitionRef, Formula, FormulaRef, Kind};
 use std::alloc::{AllocError, Global};
@@ -15,7 +15,7 @@ use svc_expr::{Expr, needs_int_members, type_of};
 use svc_value::{Rank, ServiceId, ValueType};
 
 /// The most dependencies of a service.
-pub const MOST_DEPENDENCIES: usize = 16;
+pub const MAX_DEPENDENCIES: usize = 16;
 
 // The rank and the type of a service; those of an input of whole numbers if it is not declared.
 pub(crate) fn kind_of(kinds: &[Kind], id: ServiceId) -> Kind
@@ -144,7 +144,7 @@ fn is_ill_typed(
 fn is_large(formula: &Formula) -> bool
     ensures { result ≡ is_large formula.now }
 {
-    formula.fixed.len().saturating_add(formula.members.len()) > MOST_DEPENDENCIES
+    formula.fixed.len().saturating_add(formula.members.len()) > MAX_DEPENDENCIES
 }
 
 // Whether the service is a dependency of the formula.
@@ -271,7 +271,7 @@ fn has_too_many(
         Change::Add(member) => {
             is_derived(kinds, id)
                 && !is_dependency(last, *member)
-                && count_dependencies(last) >= MOST_DEPENDENCIES
+                && count_dependencies(last) >= MAX_DEPENDENCIES
         }
         Change::Define(formula) => is_derived(kinds, id) && is_large(formula),
         Change::Birth(Definition::Input(_)) | Change::Set(_) | Change::Drop(_) => false,
@@ -338,8 +338,8 @@ pub(crate) fn check(
     change: &Change,
 ) -> Result<(), ChangeError>
     requires { IsSmallChange change.now }
-    ensures ok { OnOk result (refused kinds.now id (option_map definition_lent last.entry) change.now ≡ None) }
-    ensures refused { IfErr result (λ e. e ≢ OutOfMemory → refused kinds.now id (option_map definition_lent last.entry) change.now ≡ Some e) }
+    ensures ok { OnOk result (first_error kinds.now id (option_map definition_lent last.entry) change.now ≡ None) }
+    ensures refused { IfErr result (λ e. e ≢ OutOfMemory → first_error kinds.now id (option_map definition_lent last.entry) change.now ≡ Some e) }
 {
     if names_unknown(kinds, id, change) {
         return Err(ChangeError::Unknown);

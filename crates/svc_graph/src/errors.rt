@@ -9,7 +9,7 @@ pub enum DeclareError {
     Taken,
     /// 64 services are declared.
     Full,
-    /// Want of memory.
+    /// Out of memory.
     OutOfMemory,
 }
 
@@ -32,7 +32,7 @@ pub enum ChangeError {
     Already,
     /// It takes out a service that is no member.
     NotMember,
-    /// Want of memory.
+    /// Out of memory.
     OutOfMemory,
 }
 

@@ -111,7 +111,7 @@ fn others(alloc: Global, members: &[ServiceId], member: ServiceId) -> Result<Ids
 }
 
 impl History {
-    ghost use Rattle.svc_graph.specs.History.{at_clock, present, brought, is_birth};
+    ghost use Rattle.svc_graph.specs.History.{at_clock, present, definitions_brought, is_birth};
     ghost use Rattle.svc_graph.specs.declared.definition.Definition.TheVariants.{Derived};
 
     /// No definition yet. The history takes its memory from `alloc`.
@@ -157,7 +157,7 @@ impl History {
     /// Appends the definition that `change` brings. After `OutOfMemory` the history is as it was, and the change is dropped.
     pub(crate) fn append(&mut self, change: Change) -> Result<(), OutOfMemory>
         requires { present self.old ≡ None → is_birth change ≡ true }
-        ensures ok { OnOk result (self.new ≡ self.old ++ brought (present self.old) change) }
+        ensures ok { OnOk result (self.new ≡ self.old ++ definitions_brought (present self.old) change) }
         ensures err { OnErr result (self.new ≡ self.old) }
     {
         match change {

@@ -11,7 +11,7 @@ mod history;
 mod kind;
 mod lent;
 
-pub use book::{Book, MOST_SERVICES};
+pub use book::{Book, MAX_SERVICES};
 pub use definition::{Change, Definition, Formula};
 pub use errors::{ChangeError, DeclareError};
 pub use history::History;

@@ -6,7 +6,7 @@ use Rattle.svc_value.specs.declared.value.ValueType.TheVariants as type
 use Rattle.svc_graph.specs.Central.{AreBorn}
 use Rattle.svc_graph.specs.declared.definition.Change.{Change}
 use Rattle.svc_graph.specs.declared.definition.Definition.{Definition}
-use Rattle.svc_graph.specs.History.{Row, present, brought, changed, declared_row, history_of}
+use Rattle.svc_graph.specs.History.{Row, present, definitions_brought, rows_after_change, declared_row, history_of}
 use Rattle.svc_plan.specs.declared.plan.Leg.{Leg}
 use Rattle.svc_plan.specs.declared.plan.PlanChange.{PlanChange}
 use Rattle.svc_plan.specs.declared.plan.ServiceLine.{ServiceLine}
@@ -22,16 +22,16 @@ append-some : {A : Type 0} (xs ys : List A) → xs ≢ [] → xs ++ ys ≢ []
 append-some [] ys some e = some refl
 append-some (x ∷ xs) ys some e = cc e
 
-change-born : (rows : List Row) (n : ℕ) (change : Change) → BornStay rows (changed rows n change)
+change-born : (rows : List Row) (n : ℕ) (change : Change) → BornStay rows (rows_after_change rows n change)
 change-born [] n change p some = some
-change-born (row ∷ rows) zero change zero some = append-some row.history (brought (present row.history) change) some
+change-born (row ∷ rows) zero change zero some = append-some row.history (definitions_brought (present row.history) change) some
 change-born (row ∷ rows) zero change (suc p) some = some
 change-born (row ∷ rows) (suc n) change zero some = some
 change-born (row ∷ rows) (suc n) change (suc p) some = change-born rows n change p some
 
 changes-born : (rows : List Row) (changes : List PlanChange) → BornStay rows (with_changes rows changes)
 changes-born rows [] p some = some
-changes-born rows (x ∷ changes) p some = changes-born (changed rows x.id x.change) changes p (change-born rows x.id x.change p some)
+changes-born rows (x ∷ changes) p some = changes-born (rows_after_change rows x.id x.change) changes p (change-born rows x.id x.change p some)
 
 services-born : (rows : List Row) (lines : List ServiceLine) → BornStay rows (with_services rows lines)
 services-born [] lines p some = absurd (some refl)

@@ -3,7 +3,7 @@ use Rattle.std.proofs.Common.{◌≡◌, List, [], ◌∷◌, ◌++◌, length, 
 use Rattle.std.specs.Prelude.{map}
 use Rattle.std.proofs.lemmas.List.{append-nil, map-append}
 use Rattle.svc_graph.proofs.Changed.{length-changed, names_in-changed}
-use Rattle.svc_graph.specs.History.{Row, changed, names_in}
+use Rattle.svc_graph.specs.History.{Row, rows_after_change, names_in}
 use Rattle.svc_plan.specs.declared.plan.Leg.{Leg}
 use Rattle.svc_plan.specs.declared.plan.PlanChange.{PlanChange}
 use Rattle.svc_plan.specs.declared.plan.ServiceLine.{ServiceLine}
@@ -11,11 +11,11 @@ use Rattle.svc_plan.specs.Rows.{row_of, with_services, with_changes, rows_after,
 
 pub names_in-with_changes : (rows : List Row) (changes : List PlanChange) → names_in (with_changes rows changes) ≡ names_in rows
 names_in-with_changes rows [] = refl
-names_in-with_changes rows (c ∷ changes) = names_in-with_changes (changed rows c.id c.change) changes ∙ names_in-changed rows c.id c.change
+names_in-with_changes rows (c ∷ changes) = names_in-with_changes (rows_after_change rows c.id c.change) changes ∙ names_in-changed rows c.id c.change
 
 pub length-with_changes : (rows : List Row) (changes : List PlanChange) → length (with_changes rows changes) ≡ length rows
 length-with_changes rows [] = refl
-length-with_changes rows (c ∷ changes) = length-with_changes (changed rows c.id c.change) changes ∙ length-changed rows c.id c.change
+length-with_changes rows (c ∷ changes) = length-with_changes (rows_after_change rows c.id c.change) changes ∙ length-changed rows c.id c.change
 
 pub with_services-append : (rows : List Row) (front behind : List ServiceLine) → with_services rows (front ++ behind) ≡ with_services (with_services rows front) behind
 with_services-append rows front behind = ap (λ (rs : List Row). rows ++ rs) (map-append row_of front behind) ∙ sym (append_assoc rows (map row_of front) (map row_of behind))

@@ -3,17 +3,17 @@ use Rattle.std.proofs.Common.{◌≡◌, ℕ, zero, suc, ◌+◌, ◌<◌, List,
 use Rattle.std.proofs.lemmas.List.{take-append-le, length-append}
 use Rattle.std.proofs.Math.Seq.{take-length}
 use Rattle.svc_graph.specs.declared.definition.Change.{Change}
-use Rattle.svc_graph.specs.History.{Row, present, brought, changed}
+use Rattle.svc_graph.specs.History.{Row, present, definitions_brought, rows_after_change}
 use Rattle.svc_plan.specs.declared.plan.PlanChange.{PlanChange}
 use Rattle.svc_plan.specs.declared.plan.ServiceLine.{ServiceLine}
 use Rattle.svc_plan.specs.Rows.{row_of}
-use Rattle.svc_plan.specs.Rows.{with_services, with_changes, AreServicesAfter, IsServiceAfter, AreAcceptedAfter, IsAcceptedAfter}
+use Rattle.svc_plan.specs.Rows.{with_services, with_changes, AreServicesAfter, IsServiceAfter, AreAcceptedAfter, AcceptsChange}
 use Rattle.svc_plan.specs.Extending.{AreWithin}
-use Rattle.svc_graph.specs.Rewound.{clocks_of, rewound}
+use Rattle.svc_graph.specs.Rewound.{clocks_of, rewound_rows}
 
 -- the first rows are found again in the second by their clocks
 abbrev pub FoundAgain : List Row → List Row → Type 0
-FoundAgain rows new = (clocks : List ℕ) → AreWithin clocks rows → (rewound new clocks ≡ rewound rows clocks) × AreWithin clocks new
+FoundAgain rows new = (clocks : List ℕ) → AreWithin clocks rows → (rewound_rows new clocks ≡ rewound_rows rows clocks) × AreWithin clocks new
 
 pub found-same : (rows new : List Row) → new ≡ rows → FoundAgain rows new
 found-same rows new same = subst (λ ns. FoundAgain rows ns) (sym same) (λ clocks within. (refl, within))
@@ -32,12 +32,12 @@ found-declared (first ∷ rows) row (clock ∷ clocks) within =
     let (same, there) = found-declared rows row clocks within.1 in
     (ap (λ rs. record first { history = take clock first.history } ∷ rs) same, (within.0, there))
 
-found-changed : (rows : List Row) (n : ℕ) (change : Change) → FoundAgain rows (changed rows n change)
+found-changed : (rows : List Row) (n : ℕ) (change : Change) → FoundAgain rows (rows_after_change rows n change)
 found-changed [] n change clocks within = (refl, within)
 found-changed (row ∷ rows) zero change [] within = (refl, tt)
 found-changed (row ∷ rows) zero change (clock ∷ clocks) within =
-    let more = brought (present row.history) change in (
-      ap (λ ds. record row { history = ds } ∷ rewound rows clocks) (take-append-le clock row.history more within.0),
+    let more = definitions_brought (present row.history) change in (
+      ap (λ ds. record row { history = ds } ∷ rewound_rows rows clocks) (take-append-le clock row.history more within.0),
       (omega (arith, within.0, length-append row.history more), within.1),
     )
 found-changed (row ∷ rows) (suc n) change [] within = (refl, tt)
@@ -46,7 +46,7 @@ found-changed (row ∷ rows) (suc n) change (clock ∷ clocks) within =
     (ap (λ rs. record row { history = take clock row.history } ∷ rs) same, (within.0, there))
 
 -- by all its clocks a row is itself
-pub rewound-clocks_of : (rows : List Row) → rewound rows (clocks_of rows) ≡ rows
+pub rewound-clocks_of : (rows : List Row) → rewound_rows rows (clocks_of rows) ≡ rows
 rewound-clocks_of [] = refl
 rewound-clocks_of (row ∷ rows) = ap₂ (λ ds rs. record row { history = ds } ∷ rs) (take-length row.history) (rewound-clocks_of rows)
 
@@ -88,20 +88,20 @@ pub record Accepted (first : List Row) (changes : List PlanChange) (rows : List 
   pub older : FoundAgain first rows
 
 module _ (first : List Row) (changes : List PlanChange) (rows : List Row) (i : ℕ) (next : PlanChange) (less : i < length changes) (at : next ≡ get_or changes i next) (d : Accepted first changes rows i) where
-  pub next_accepted : IsAcceptedAfter rows next.id next.change
+  pub next_accepted : AcceptsChange rows next.id next.change
   next_accepted = (subst (AreAcceptedAfter rows) (drop-next changes i next less at) d.accepted).0
 
-  pub next_made : (new : List Row) → new ≡ changed rows next.id next.change → Accepted first changes new (i + 1)
+  pub next_made : (new : List Row) → new ≡ rows_after_change rows next.id next.change → Accepted first changes new (i + 1)
   next_made new is =
       let here : drop i changes ≡ next ∷ drop (suc i) changes = drop-next changes i next less at in
-      let step : Accepted first changes (changed rows next.id next.change) (suc i) = record {
+      let step : Accepted first changes (rows_after_change rows next.id next.change) (suc i) = record {
         goal = sym (ap (with_changes rows) here) ∙ d.goal;
         accepted = (subst (AreAcceptedAfter rows) here d.accepted).1;
-        older = found-trans first rows (changed rows next.id next.change) d.older (found-changed rows next.id next.change);
+        older = found-trans first rows (rows_after_change rows next.id next.change) d.older (found-changed rows next.id next.change);
       } in
       rw add-one (subst (λ rs. Accepted first changes rs (suc i)) (sym is) step)
 
 -- ---- back to the first rows
 
-pub back : (rows new : List Row) (clocks : List ℕ) → clocks ≡ clocks_of rows → ((cs : List ℕ) → AreWithin cs rows → rewound new cs ≡ rewound rows cs) → rewound new clocks ≡ rows
-back rows new clocks same older = ap (rewound new) same ∙ older (clocks_of rows) (clocks_within rows) ∙ rewound-clocks_of rows
+pub back : (rows new : List Row) (clocks : List ℕ) → clocks ≡ clocks_of rows → ((cs : List ℕ) → AreWithin cs rows → rewound_rows new cs ≡ rewound_rows rows cs) → rewound_rows new clocks ≡ rows
+back rows new clocks same older = ap (rewound_rows new) same ∙ older (clocks_of rows) (clocks_within rows) ∙ rewound-clocks_of rows

@@ -4,14 +4,14 @@ use Rattle.std.specs.Prelude.{map, drop}
 use Rattle.svc_graph.specs.declared.definition.Change.{Change}
 use Rattle.svc_graph.specs.declared.definition.Change.TheVariants.{Birth}
 use Rattle.svc_graph.specs.declared.definition.Definition.{Definition}
-use Rattle.svc_graph.specs.History.{Row, brought, grown, changed, history_of, present, row_at}
+use Rattle.svc_graph.specs.History.{Row, definitions_brought, row_after, rows_after_change, history_of, present, row_at}
 use Rattle.svc_plan.specs.declared.plan.ServiceLine.{ServiceLine}
 use Rattle.svc_plan.specs.Rows.{row_of, with_services}
 use Rattle.svc_plan.specs.Rows.{EachBorn}
 
 -- ---- more rows behind
 
-pub changed-append : (rows more : List Row) (n : ℕ) (change : Change) → n < length rows → changed (rows ++ more) n change ≡ changed rows n change ++ more
+pub changed-append : (rows more : List Row) (n : ℕ) (change : Change) → n < length rows → rows_after_change (rows ++ more) n change ≡ rows_after_change rows n change ++ more
 changed-append [] more n change h = absurd (omega arith)
 changed-append (row ∷ rows) more zero change h = refl
 changed-append (row ∷ rows) more (suc n) change h = ap (λ (rs : List Row). row ∷ rs) (changed-append rows more n change (omega arith))
@@ -31,7 +31,7 @@ long-append rows more n h = omega (arith, length-append rows more, h)
 pub last_within : (rows : List Row) (row : Row) → length rows < length (rows ++ row ∷ [])
 last_within rows row = omega (arith, length-append rows (row ∷ []))
 
-pub changed-last : (rows : List Row) (row : Row) (change : Change) → changed (rows ++ row ∷ []) (length rows) change ≡ rows ++ grown row change ∷ []
+pub changed-last : (rows : List Row) (row : Row) (change : Change) → rows_after_change (rows ++ row ∷ []) (length rows) change ≡ rows ++ row_after row change ∷ []
 changed-last [] row change = refl
 changed-last (first ∷ rows) row change = ap (λ (rs : List Row). first ∷ rs) (changed-last rows row change)
 
@@ -50,7 +50,7 @@ not_nil : {A : Type 0} (xs ys : List A) → xs ≢ [] → xs ++ ys ≢ []
 not_nil [] ys h e = h refl
 not_nil (x ∷ xs) ys h e = cc
 
-pub born-changed : (rows : List Row) (n : ℕ) (change : Change) → EachBorn rows → EachBorn (changed rows n change)
+pub born-changed : (rows : List Row) (n : ℕ) (change : Change) → EachBorn rows → EachBorn (rows_after_change rows n change)
 born-changed [] n change b = tt
 born-changed (row ∷ rows) zero change b = (not_nil row.history _ b.0, b.1)
 born-changed (row ∷ rows) (suc n) change b = (b.0, born-changed rows n change b.1)
@@ -66,13 +66,13 @@ born-drop (suc n) (row ∷ rows) b = born-drop n rows b.1
 
 -- ---- clocks
 
-length_brought : (last : Option Definition) (change : Change) → length (brought last change) ≤ 1
+length_brought : (last : Option Definition) (change : Change) → length (definitions_brought last change) ≤ 1
 length_brought None (Birth first) = omega arith
 length_brought None change = omega arith
 length_brought (Some last) change = omega arith
 
 -- a change brings at most one definition
-pub clock-changed : (rows : List Row) (n m : ℕ) (change : Change) → length (history_of (changed rows n change) m) ≤ length (history_of rows m) + 1
+pub clock-changed : (rows : List Row) (n m : ℕ) (change : Change) → length (history_of (rows_after_change rows n change) m) ≤ length (history_of rows m) + 1
 clock-changed [] n m change = omega arith
 clock-changed (row ∷ rows) zero zero change = rw length-append (omega (arith, length_brought (present row.history) change))
 clock-changed (row ∷ rows) zero (suc m) change = omega arith

@@ -3,7 +3,7 @@ use Rattle.std.specs.Prelude.{◌≡◌, ◌≢◌, ℕ, ◌<◌, ◌≤◌, Lis
 use Rattle.svc_graph.specs.declared.definition.Change.{Change}
 use Rattle.svc_graph.specs.Accepting.{IsChangeOf}
 use Rattle.svc_graph.specs.Refusals.{refusal_of}
-use Rattle.svc_graph.specs.History.{Row, changed, declared_row, place_of, present}
+use Rattle.svc_graph.specs.History.{Row, rows_after_change, declared_row, find_service, present}
 use Rattle.svc_token.specs.Word.{IsName}
 use Rattle.svc_plan.specs.declared.plan.Leg.{Leg}
 use Rattle.svc_plan.specs.declared.plan.PlanChange.{PlanChange}
@@ -20,7 +20,7 @@ with_services rows lines = rows ++ map row_of lines
 -- the rows after changes, one after the other
 abbrev pub with_changes : List Row → List PlanChange → List Row
 with_changes rows [] = rows
-with_changes rows (change ∷ changes) = with_changes (changed rows change.id change.change) changes
+with_changes rows (change ∷ changes) = with_changes (rows_after_change rows change.id change.change) changes
 
 -- the rows after a leg: it declares its services, and then makes its changes
 abbrev pub rows_after : List Row → Leg → List Row
@@ -45,7 +45,7 @@ EachBorn (row ∷ rows) = (row.history ≢ []) × EachBorn rows
 -- a name that is not declared, room for a service, and a rank within its limit
 pub record IsServiceAfter (rows : List Row) (line : ServiceLine) : Type 0 where
   pub name : IsName line.name
-  pub new : place_of rows line.name ≡ None
+  pub new : find_service rows line.name ≡ None
   pub room : length rows < 64
   pub rank : line.rank ≤ 1000
 
@@ -55,7 +55,7 @@ AreServicesAfter rows [] = Unit {0}
 AreServicesAfter rows (line ∷ lines) = IsServiceAfter rows line × AreServicesAfter (with_services rows (line ∷ [])) lines
 
 -- a book accepts the change
-pub record IsAcceptedAfter (rows : List Row) (n : ℕ) (change : Change) : Type 0 where
+pub record AcceptsChange (rows : List Row) (n : ℕ) (change : Change) : Type 0 where
   pub form : IsChangeOf rows n change
   pub passes : refusal_of rows n change ≡ None
 
@@ -63,7 +63,7 @@ pub record IsAcceptedAfter (rows : List Row) (n : ℕ) (change : Change) : Type 
 abbrev pub AreAcceptedAfter : List Row → List PlanChange → Type 0
 AreAcceptedAfter rows [] = Unit {0}
 AreAcceptedAfter rows (change ∷ changes) =
-    IsAcceptedAfter rows change.id change.change × AreAcceptedAfter (changed rows change.id change.change) changes
+    AcceptsChange rows change.id change.change × AreAcceptedAfter (rows_after_change rows change.id change.change) changes
 
 -- the leg can be taken: its services can be declared and then its changes be made, which bring each service a definition
 pub record IsLegAfter (rows : List Row) (leg : Leg) : Type 0 where

@@ -1,9 +1,9 @@
 // What a leg adds to a book.
 ghost use Rattle.std.specs.Prelude.{◌≡◌, [], ◌∷◌, List, ℕ, IfOk, OnOk, OnErr};
 ghost use Rattle.svc_graph.specs.Book.{IsBook};
-ghost use Rattle.svc_graph.specs.History.{changed};
-ghost use Rattle.svc_graph.specs.Rewound.{clocks_of, rewound};
-ghost use Rattle.svc_plan.specs.Rows.{with_services, with_changes, rows_after, AreServicesAfter, IsServiceAfter, AreAcceptedAfter, IsAcceptedAfter, IsLegAfter};
+ghost use Rattle.svc_graph.specs.History.{rows_after_change};
+ghost use Rattle.svc_graph.specs.Rewound.{clocks_of, rewound_rows};
+ghost use Rattle.svc_plan.specs.Rows.{with_services, with_changes, rows_after, AreServicesAfter, IsServiceAfter, AreAcceptedAfter, AcceptsChange, IsLegAfter};
 ghost use Rattle.svc_plan.specs.Extending.{AreWithin};
 
 use crate::plan::{Leg, PlanChange, ServiceLine};
@@ -43,7 +43,7 @@ fn clocks_of(alloc: Global, book: &Book) -> Result<Clocks, OutOfMemory>
 fn add(book: &mut Book, leg: &Leg) -> Result<(), OutOfMemory>
     requires { IsLegAfter book.old leg.now }
     ensures ok { OnOk result (book.new ≡ rows_after book.old leg.now) }
-    ensures older { (clocks : List ℕ) → AreWithin clocks book.old → rewound book.new clocks ≡ rewound book.old clocks }
+    ensures older { (clocks : List ℕ) → AreWithin clocks book.old → rewound_rows book.new clocks ≡ rewound_rows book.old clocks }
 {
     declare_all(book, leg.services.as_slice())?;
     accept_all(book, leg.changes.as_slice())
@@ -53,7 +53,7 @@ fn add(book: &mut Book, leg: &Leg) -> Result<(), OutOfMemory>
 fn declare_all(book: &mut Book, lines: &[ServiceLine]) -> Result<(), OutOfMemory>
     requires { AreServicesAfter book.old lines.now }
     ensures ok { OnOk result (book.new ≡ with_services book.old lines.now) }
-    ensures older { (clocks : List ℕ) → AreWithin clocks book.old → (rewound book.new clocks ≡ rewound book.old clocks) × AreWithin clocks book.new }
+    ensures older { (clocks : List ℕ) → AreWithin clocks book.old → (rewound_rows book.new clocks ≡ rewound_rows book.old clocks) × AreWithin clocks book.new }
 {
     for line in lines {
         declare(book, line)?;
@@ -65,7 +65,7 @@ fn declare_all(book: &mut Book, lines: &[ServiceLine]) -> Result<(), OutOfMemory
 fn accept_all(book: &mut Book, changes: &[PlanChange]) -> Result<(), OutOfMemory>
     requires { AreAcceptedAfter book.old changes.now }
     ensures ok { OnOk result (book.new ≡ with_changes book.old changes.now) }
-    ensures older { (clocks : List ℕ) → AreWithin clocks book.old → (rewound book.new clocks ≡ rewound book.old clocks) × AreWithin clocks book.new }
+    ensures older { (clocks : List ℕ) → AreWithin clocks book.old → (rewound_rows book.new clocks ≡ rewound_rows book.old clocks) × AreWithin clocks book.new }
 {
     for next in changes {
         accept(book, next.id, next.change.copy()?)?;
@@ -75,8 +75,8 @@ fn accept_all(book: &mut Book, changes: &[PlanChange]) -> Result<(), OutOfMemory
 
 // Makes a change.
 fn accept(book: &mut Book, id: ServiceId, change: Change) -> Result<(), OutOfMemory>
-    requires { IsAcceptedAfter book.old id change }
-    ensures ok { OnOk result (book.new ≡ changed book.old id change) }
+    requires { AcceptsChange book.old id change }
+    ensures ok { OnOk result (book.new ≡ rows_after_change book.old id change) }
     ensures err { OnErr result (book.new ≡ book.old) }
 {
     match book.accept(id, change) {

@@ -6,7 +6,7 @@ use Rattle.svc_token.specs.declared.keyword.Keyword.{Keyword}
 use Rattle.svc_token.specs.declared.token.Token.{Token}
 use Rattle.svc_token.specs.declared.token.Token.TheVariants as tok
 use Rattle.svc_token.specs.Keyword.{keyword_of}
-use Rattle.svc_token.specs.Word.{is_word_byte, number_of, IsName}
+use Rattle.svc_token.specs.Word.{is_word_byte, decimal_value, IsName}
 
 -- space, tab, CR
 abbrev pub is_blank : ℕ → Bool
@@ -33,7 +33,7 @@ word_token word = word_or (keyword_of word) word
 unfoldable pub number_at : List ℕ → List ℕ → Front
 number_at digits text =
     if begins is_word_byte (drop (length digits) text) then None
-    else Some (tok.Number (min (number_of digits) 18446744073709551615), length digits)
+    else Some (tok.Number (min (decimal_value digits) 18446744073709551615), length digits)
 
 -- how many bytes there are up to a quote that no backslash escapes, counted on from n
 abbrev pub closing : ℕ → Bool → List ℕ → Option ℕ

@@ -25,5 +25,5 @@ number_from n [] = n
 number_from n (d ∷ ds) = number_from (n * 10 + (d - 48)) ds
 
 -- the number that decimal digits spell
-abbrev pub number_of : List ℕ → ℕ
-number_of digits = number_from 0 digits
+abbrev pub decimal_value : List ℕ → ℕ
+decimal_value digits = number_from 0 digits

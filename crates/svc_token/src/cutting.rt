@@ -4,13 +4,13 @@ ghost use Rattle.std.specs.Result.{IsErrOf};
 ghost use Rattle.std.specs.List.{take_while};
 ghost use Rattle.std.specs.Char.{is_ascii_digit};
 ghost use Rattle.svc_token.specs.declared.token.Token.{Token};
-ghost use Rattle.svc_token.specs.Word.{is_word, is_word_byte, number_of};
+ghost use Rattle.svc_token.specs.Word.{is_word, is_word_byte, decimal_value};
 ghost use Rattle.svc_token.specs.Cutting.{is_blank, word_token, number_at, closing, quoted_at, long_mark_at, short_mark_at, mark_at, front, Cuts};
 
 use crate::keyword::spelled_keyword;
 use crate::mark::mark;
-use crate::token::{LONGEST_NAME, is_word_byte};
-use crate::{LentName, Span, Token};
+use crate::token::{MAX_NAME_LEN, is_word_byte};
+use crate::{BytesRef, NameRef, Token};
 use std::alloc::AllocFailed;
 
 /// Why a text was not cut.
@@ -18,7 +18,7 @@ use std::alloc::AllocFailed;
 pub enum CutError {
     /// The text is no list of tokens.
     Bad,
-    /// Want of memory.
+    /// Out of memory.
     OutOfMemory,
 }
 
@@ -56,7 +56,7 @@ fn digits_len(text: &[u8]) -> usize
 
 // The number that the digits spell, or 2^64 - 1 for any greater one.
 fn value(digits: &[u8]) -> u64
-    ensures { result ≡ min (number_of digits.now) 18446744073709551615 }
+    ensures { result ≡ min (decimal_value digits.now) 18446744073709551615 }
 {
     let mut value = 0u64;
     for digit in digits {
@@ -76,8 +76,8 @@ fn word(bytes: &[u8]) -> Token<'_>
     match spelled_keyword(bytes) {
         Some(keyword) => Token::Keyword(keyword),
         None => {
-            if bytes.len() <= LONGEST_NAME {
-                Token::Name(LentName::new(bytes))
+            if bytes.len() <= MAX_NAME_LEN {
+                Token::Name(NameRef::new(bytes))
             } else {
                 Token::Long
             }
@@ -129,7 +129,7 @@ fn quoted(text: &[u8]) -> Option<(Token<'_>, usize)>
     ensures fits { IfSome result (λ x. x.1 ≤ length text.now) }
 {
     let len = quoted_len(&text[1..])?;
-    Some((Token::Quoted(Span::new(&text[..len])), len))
+    Some((Token::Quoted(BytesRef::new(&text[..len])), len))
 }
 
 // The longest token at the front, and how many bytes it has.

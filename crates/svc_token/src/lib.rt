@@ -5,10 +5,10 @@
 mod cutting;
 mod keyword;
 mod mark;
-mod span;
+mod refs;
 mod token;
 
 pub use cutting::{CutError, cut, is_blank, one_cut};
 pub use keyword::{Keyword, spelled_keyword};
-pub use span::{LentName, Span};
-pub use token::{LONGEST_NAME, Token, is_name};
+pub use refs::{BytesRef, NameRef};
+pub use token::{MAX_NAME_LEN, Token, is_name};

@@ -4,10 +4,10 @@ ghost use Rattle.std.specs.List.{list_all};
 ghost use Rattle.svc_token.specs.Word.{IsName, is_word_byte, is_word};
 
 use crate::keyword::spelled_keyword;
-use crate::{Keyword, LentName, Span};
+use crate::{BytesRef, Keyword, NameRef};
 
 /// The most bytes that a name has.
-pub const LONGEST_NAME: usize = 32;
+pub const MAX_NAME_LEN: usize = 32;
 
 /// A token of a line. What it lends is lent from the line.
 #[derive(Debug, Drop)]
@@ -15,13 +15,13 @@ pub enum Token<'a> {
     /// A word that is a keyword.
     Keyword(Keyword),
     /// A word of at most 32 bytes that is no keyword, with its bytes.
-    Name(LentName<'a>),
+    Name(NameRef<'a>),
     /// A word of more than 32 bytes, which is no name.
     Long,
     /// Digits, with the number that they spell, or 2^64 - 1 for any greater one.
     Number(u64),
     /// A quoted text as it stands, with its quotes and escapes.
-    Quoted(Span<'a>),
+    Quoted(BytesRef<'a>),
     /// `:`
     Colon,
     /// `=`
@@ -86,5 +86,5 @@ fn is_word(bytes: &[u8]) -> bool
 pub fn is_name(bytes: &[u8]) -> bool
     ensures { IsTrue result ↔ IsName bytes.now }
 {
-    is_word(bytes) && bytes.len() <= LONGEST_NAME && spelled_keyword(bytes).is_none()
+    is_word(bytes) && bytes.len() <= MAX_NAME_LEN && spelled_keyword(bytes).is_none()
 }

@@ -20,7 +20,7 @@ use Rattle.svc_value.specs.declared.value.Value.TheVariants.{Int, Words, Bad}
 use Rattle.svc_value.specs.Layout.{IsWithin}
 use Rattle.svc_value.specs.Literal.{number_from, IsNumber, IsLiteral, IsSomeLiteral, IsWholeQuoted, IsPrinted, IsSomePrinted}
 use Rattle.svc_value.specs.Prefix.{IsRefusedAt}
-use Rattle.svc_value.specs.Printed.{printed, fault_text}
+use Rattle.svc_value.specs.Printed.{printed_value, fault_text}
 use Rattle.std.proofs.lemmas.Str.{IsUtf8-nil}
 use Rattle.svc_value.specs.Quoted.{IsQuoted, closing}
 use Rattle.svc_value.specs.Reading.{number_at, signed_at, with_sign, zero_follows_minus}
@@ -169,7 +169,7 @@ fault_first Empty b xs e = ap (λ (l : List ℕ). get_or l 0 0) e
 minus_printed : (xs : List ℕ) → IsSomePrinted (45 ∷ xs) → Digits Printed false (2 ^ 63) xs
 minus_printed xs k = by k.0 k.1.within k.1.text
   where
-    by : (v : Value) → IsWithin v → 45 ∷ xs ≡ printed v → Digits Printed false (2 ^ 63) xs
+    by : (v : Value) → IsWithin v → 45 ∷ xs ≡ printed_value v → Digits Printed false (2 ^ 63) xs
     by (Int (pos n)) w e = let small : n < 2 ^ 64 = omega (arith, ints, w) in absurd (both_ways false refl (first_of_decimal n 45 xs small e))
     by (Int (negsuc n)) w e =
         let most : suc n ≤ 2 ^ 63 = omega (arith, ints, w) in
@@ -187,7 +187,7 @@ printed_plus xs d =
 plus_printed : (b : ℕ) (xs : List ℕ) → b ≢ 34 → b ≢ 33 → b ≢ 45 → IsSomePrinted (b ∷ xs) → Digits Printed true (2 ^ 63 - 1) (b ∷ xs)
 plus_printed b xs m f n k = by k.0 k.1.within k.1.text
   where
-    by : (v : Value) → IsWithin v → b ∷ xs ≡ printed v → Digits Printed true (2 ^ 63 - 1) (b ∷ xs)
+    by : (v : Value) → IsWithin v → b ∷ xs ≡ printed_value v → Digits Printed true (2 ^ 63 - 1) (b ∷ xs)
     by (Int (pos z)) w e =
         let most : z ≤ 2 ^ 63 - 1 = omega (arith, ints, w) in
         decimal_from true (2 ^ 63 - 1) z (b ∷ xs) e most (omega arith) (λ t. absurd (cc))
@@ -198,7 +198,7 @@ plus_printed b xs m f n k = by k.0 k.1.within k.1.text
 nothing_printed : IsSomePrinted [] → ⊥
 nothing_printed k = by k.0 k.1.within k.1.text
   where
-    by : (v : Value) → IsWithin v → [] ≡ printed v → ⊥
+    by : (v : Value) → IsWithin v → [] ≡ printed_value v → ⊥
     by (Int (pos z)) w e = let small : z < 2 ^ 64 = omega (arith, ints, w) in absurd (omega (arith, ap length e, decimal_nonempty z small))
     by (Int (negsuc z)) w e = cc
     by (Words t) w e = cc
@@ -319,7 +319,7 @@ printed_quoted_refused (b ∷ bs) p some is r =
     ([], record { inside = 34 ∷ []; opening = ap (λ c. c ∷ 34 ∷ []) is; spelled = closing; most = omega arith; utf8 = IsUtf8-nil })
     (λ xs k. (Words k.0, record { within = (k.1.most, k.1.utf8); text = quoted_printed (b ∷ xs) k.0 k.1 })) (λ xs k. back xs k.0 k.1.within k.1.text) r
   where
-    back : (xs : List ℕ) (v : Value) → IsWithin v → b ∷ xs ≡ printed v → IsWholeQuoted Printed (b ∷ xs)
+    back : (xs : List ℕ) (v : Value) → IsWithin v → b ∷ xs ≡ printed_value v → IsWholeQuoted Printed (b ∷ xs)
     back xs (Int (pos n)) w e = let small : n < 2 ^ 64 = omega (arith, ints, w) in absurd (both_ways false refl (ap is_ascii_digit (sym is) ∙ first_of_decimal n b xs small e))
     back xs (Int (negsuc n)) w e = absurd (omega (arith, is, ap (λ (l : List ℕ). get_or l 0 0) e))
     back xs (Words t) w e = (t, printed_quoted (b ∷ xs) t w.0 w.1 e)

@@ -18,7 +18,7 @@ use Rattle.svc_value.specs.declared.value.Value.TheVariants.{Int, Words, Bad}
 use Rattle.svc_value.specs.Layout.{IsWithin}
 use Rattle.svc_value.specs.Literal.{IsLiteral, IsSomeLiteral, IsWholeQuoted, IsPrinted, IsSomePrinted, IsRefused}
 use Rattle.svc_value.specs.Prefix.{IsRefusedAt}
-use Rattle.svc_value.specs.Printed.{printed, fault_text}
+use Rattle.svc_value.specs.Printed.{printed_value, fault_text}
 use Rattle.svc_value.specs.Quoted.{IsQuoted}
 use Rattle.svc_value.specs.Reading.{Gives, GivesNumber, inside_at, signed_at, IsQuotedValue, BeginsWith, fault_of_letter, fault_by}
 use Rattle.svc_value.proofs.Places.{refused_end, refused_here, refused_next, refused_agree}
@@ -109,7 +109,7 @@ one_name bytes name k within short same differ more = record {
 mark_fault : (xs : List ℕ) → IsSomePrinted (33 ∷ xs) → (f : Fault) × (33 ∷ xs ≡ fault_text f)
 mark_fault xs k = by k.0 k.1.within k.1.text
   where
-    by : (v : Value) → IsWithin v → 33 ∷ xs ≡ printed v → (f : Fault) × (33 ∷ xs ≡ fault_text f)
+    by : (v : Value) → IsWithin v → 33 ∷ xs ≡ printed_value v → (f : Fault) × (33 ∷ xs ≡ fault_text f)
     by (Int (pos n)) w e = let small : n < 18446744073709551616 = omega (arith, ints, w) in absurd (both_ways false refl (first_of_decimal n 33 xs small e))
     by (Int (negsuc n)) w e = absurd (omega (arith, ap (λ (l : List ℕ). get_or l 0 0) e))
     by (Words t) w e = absurd (omega (arith, ap (λ (l : List ℕ). get_or l 0 0) e))

@@ -13,7 +13,7 @@ use Rattle.svc_value.specs.declared.value.Value.{Value}
 use Rattle.svc_value.specs.declared.value.Value.TheVariants.{Int, Words, Bad}
 use Rattle.svc_value.specs.Layout.{IsWithin}
 use Rattle.svc_value.specs.Literal.{number_from, IsNumber, IsSigned, IsLiteral}
-use Rattle.svc_value.specs.Printed.{quoted, printed, fault_text}
+use Rattle.svc_value.specs.Printed.{between_quotes, printed_value, fault_text}
 use Rattle.svc_value.specs.Quoted.{IsQuoted}
 use Rattle.svc_value.specs.Reading.{fault_of_letter}
 use Rattle.svc_value.proofs.PrintedQuoted.{printed_quoted}
@@ -47,28 +47,28 @@ one_literal bytes (Int y) (Bad g) p q = absurd q
 one_literal bytes (Words t) (Bad g) p q = absurd q
 
 -- the first byte of a whole number's text is a digit or `-`
-number_starts : (z : ℤ) (b : ℕ) (bs : List ℕ) → IsWithin (Int z) → b ∷ bs ≡ printed (Int z) → (is_ascii_digit b ≡ true) ⊎ (b ≡ 45)
+number_starts : (z : ℤ) (b : ℕ) (bs : List ℕ) → IsWithin (Int z) → b ∷ bs ≡ printed_value (Int z) → (is_ascii_digit b ≡ true) ⊎ (b ≡ 45)
 number_starts (pos n) b bs w e = let small : n < 18446744073709551616 = omega (arith, ints, w) in inl (first_of_decimal n b bs small e)
 number_starts (negsuc n) b bs w e = inr (ap (λ (l : List ℕ). get_or l 0 0) e)
 
-no_text : (z : ℤ) (t : List ℕ) → IsWithin (Int z) → quoted t ≡ printed (Int z) → ⊥
+no_text : (z : ℤ) (t : List ℕ) → IsWithin (Int z) → between_quotes t ≡ printed_value (Int z) → ⊥
 no_text z t w e = elim (number_starts z 34 _ w e) [ inl d ↦ both_ways false refl d | inr k ↦ absurd (omega (arith, k)) ]
 
-starts : (z : ℤ) (bs : List ℕ) → IsWithin (Int z) → 33 ∷ bs ≡ printed (Int z) → ⊥
+starts : (z : ℤ) (bs : List ℕ) → IsWithin (Int z) → 33 ∷ bs ≡ printed_value (Int z) → ⊥
 starts z bs w e = elim (number_starts z 33 bs w e) [ inl d ↦ both_ways false refl d | inr k ↦ absurd (omega (arith, k)) ]
 
-no_fault : (z : ℤ) (f : Fault) → IsWithin (Int z) → fault_text f ≡ printed (Int z) → ⊥
+no_fault : (z : ℤ) (f : Fault) → IsWithin (Int z) → fault_text f ≡ printed_value (Int z) → ⊥
 no_fault z Overflow w e = starts z _ w e
 no_fault z Zero w e = starts z _ w e
 no_fault z Long w e = starts z _ w e
 no_fault z Number w e = starts z _ w e
 no_fault z Empty w e = starts z _ w e
 
-pub one_printed : (a b : Value) → IsWithin a → IsWithin b → printed a ≡ printed b → a ≡ b
+pub one_printed : (a b : Value) → IsWithin a → IsWithin b → printed_value a ≡ printed_value b → a ≡ b
 one_printed (Int y) (Int z) p q e = ap (λ n. Int n) (signed_decimal_injective y z (omega (arith, ints, p)) (omega (arith, ints, q)) e)
 one_printed (Int y) (Words u) p q e = absurd (no_text y u p (sym e))
 one_printed (Words t) (Int z) p q e = absurd (no_text z t q e)
-one_printed (Words t) (Words u) p q e = ap (λ w. Words w) (one_quoted Printed (quoted t) t u (printed_quoted (quoted t) t p.0 p.1 refl) (printed_quoted (quoted t) u q.0 q.1 e))
+one_printed (Words t) (Words u) p q e = ap (λ w. Words w) (one_quoted Printed (between_quotes t) t u (printed_quoted (between_quotes t) t p.0 p.1 refl) (printed_quoted (between_quotes t) u q.0 q.1 e))
 one_printed (Bad f) (Bad g) p q e =
     let same : Some f ≡ Some g = sym (of_letter f) ∙ ap (λ (l : List ℕ). fault_of_letter (get_or l 1 0)) e ∙ of_letter g in
     let one : f ≡ g = cc in

@@ -8,7 +8,7 @@ use Rattle.std.specs.List.{flat_map}
 use Rattle.std.specs.Prelude.{◌==◌, ◌&&◌}
 use Rattle.svc_value.specs.declared.inside.Form.{Form}
 use Rattle.svc_value.specs.declared.inside.Form.TheVariants.{Printed}
-use Rattle.svc_value.specs.Printed.{is_escaped, quoted_byte, quoted}
+use Rattle.svc_value.specs.Printed.{is_escaped, quoted_byte, between_quotes}
 use Rattle.svc_value.specs.Quoted.{is_itself, is_hexed, is_written, short_escape, hex_escape, Spells, closing, itself, short, hex, IsQuoted}
 use Rattle.svc_value.proofs.Quoting.{quoted_plain}
 use Rattle.svc_value.proofs.InsidePlaces.{hex_parts}
@@ -104,8 +104,8 @@ spells_printed _ _ rest (hex {high = h} {low = l} {means = d} {bytes = bs} {text
     ap (λ z. 92 ∷ 120 ∷ h ∷ l ∷ z) (spells_printed bs t rest s) ∙ ap (λ z. (z ++ flat_map quoted_byte t) ++ 34 ∷ rest) (sym (hex_shown h l d k))
 
 -- a printed text is a quoted text in printed form, and so the other way
-pub quoted_printed : (xs t : List ℕ) → IsQuoted Printed xs t [] → xs ≡ quoted t
+pub quoted_printed : (xs t : List ℕ) → IsQuoted Printed xs t [] → xs ≡ between_quotes t
 quoted_printed xs t q = q.opening ∙ ap (λ z. 34 ∷ z) (spells_printed q.inside t [] q.spelled)
 
-pub printed_quoted : (xs t : List ℕ) → length t ≤ 256 → IsUtf8 t → xs ≡ quoted t → IsQuoted Printed xs t []
+pub printed_quoted : (xs t : List ℕ) → length t ≤ 256 → IsUtf8 t → xs ≡ between_quotes t → IsQuoted Printed xs t []
 printed_quoted xs t most u e = record { inside = flat_map quoted_byte t ++ 34 ∷ []; opening = e; spelled = printed_spells t []; most = most; utf8 = u }

@@ -10,7 +10,7 @@ use Rattle.svc_value.specs.declared.value.Value.{Value}
 use Rattle.svc_value.specs.declared.value.Value.TheVariants.{Int, Words, Bad}
 use Rattle.svc_value.specs.Layout.{IsWithin}
 use Rattle.svc_value.specs.Prefix.{IsRefusedAt}
-use Rattle.svc_value.specs.Printed.{printed}
+use Rattle.svc_value.specs.Printed.{printed_value}
 use Rattle.svc_value.specs.Quoted.{IsQuoted, any_form}
 
 -- the number that decimal digits spell, behind the number so far
@@ -45,7 +45,7 @@ IsWholeQuoted form bytes = (text : List ℕ) × IsQuoted form bytes text []
 -- the bytes are the text of the value
 pub record IsPrinted (bytes : List ℕ) (value : Value) : Type 0 where
   pub within : IsWithin value
-  pub text : bytes ≡ printed value
+  pub text : bytes ≡ printed_value value
 
 -- the bytes are the text of some value
 abbrev pub IsSomePrinted : List ℕ → Type 0

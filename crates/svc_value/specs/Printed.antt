@@ -25,8 +25,8 @@ quoted_byte byte =
     else byte ∷ []))))
 
 -- the text between quotes
-abbrev pub quoted : List ℕ → List ℕ
-quoted text = 34 ∷ flat_map quoted_byte text ++ 34 ∷ []
+abbrev pub between_quotes : List ℕ → List ℕ
+between_quotes text = 34 ∷ flat_map quoted_byte text ++ 34 ∷ []
 
 -- `!` and the name of a fault
 abbrev pub fault_text : Fault → List ℕ
@@ -37,7 +37,7 @@ fault_text Number = codes "!number"
 fault_text Empty = codes "!empty"
 
 -- a number in decimal digits with `-` where it is negative, a quoted text, or a fault
-abbrev pub printed : Value → List ℕ
-printed (Int number) = signed_decimal number
-printed (Words text) = quoted text
-printed (Bad fault) = fault_text fault
+abbrev pub printed_value : Value → List ℕ
+printed_value (Int number) = signed_decimal number
+printed_value (Words text) = between_quotes text
+printed_value (Bad fault) = fault_text fault

@@ -5,7 +5,7 @@ ghost use Rattle.std.specs.Fmt.{digit_glyph};
 ghost use Rattle.svc_value.specs.Quoted.{is_itself, is_hexed, is_written, hex_escape};
 ghost use Rattle.svc_value.specs.Reading.{Gives, may_lead, next_step, inside_at};
 
-use crate::{LONGEST_TEXT, LiteralError, ValueText};
+use crate::{LiteralError, MAX_TEXT_LEN, ValueText};
 use std::alloc::Global;
 
 /// Which forms of quoted texts and numbers are read.
@@ -53,12 +53,12 @@ pub(crate) fn read_quoted(
 ) -> Result<(ValueText, usize), LiteralError>
     ensures { Gives (λ read. (read.0, read.1)) result (inside_at form (chars text.now) Inside.Open 256) }
 {
-    let mut words = String::with_capacity(alloc, text.len().min(LONGEST_TEXT))?;
+    let mut words = String::with_capacity(alloc, text.len().min(MAX_TEXT_LEN))?;
     let mut inside = Inside::Open;
     let mut at = 0;
     let mut rest = text.chars();
     while let Some(char) = rest.next() {
-        match next_step(form, inside, LONGEST_TEXT - words.len(), char) {
+        match next_step(form, inside, MAX_TEXT_LEN - words.len(), char) {
             Step::Close => return Ok((ValueText::from_string(words), at + 1)),
             Step::Stop => return Err(LiteralError::Bad { place: at }),
             Step::Enter(next) => inside = next,

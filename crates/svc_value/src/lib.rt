@@ -31,5 +31,5 @@ pub use std_streams::{StdSink, StdSource};
 pub use steps::Steps;
 pub use streams::{Sink, Source};
 pub use taken::{ValueError, ValueReason, take_value};
-pub use text::{LONGEST_TEXT, TextError, ValueText};
+pub use text::{MAX_TEXT_LEN, TextError, ValueText};
 pub use value::{Fault, Value, ValueType};

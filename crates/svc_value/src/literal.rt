@@ -2,7 +2,7 @@
 ghost use Rattle.std.specs.Prelude.{ℕ, List, ◌≡◌, ◌≢◌, ◌<◌, ◌≤◌, length, take, slice_index, IfOk, IfErr, MatchBool};
 ghost use Rattle.svc_value.specs.Literal.{IsLiteral, IsSomeLiteral, IsPrinted, IsSomePrinted, IsWholeQuoted, IsRefused};
 ghost use Rattle.svc_value.specs.Reading.{BeginsWith, IsQuotedValue, fault_by};
-ghost use Rattle.svc_value.specs.Printed.{fault_text, printed};
+ghost use Rattle.svc_value.specs.Printed.{fault_text, printed_value};
 ghost use Rattle.svc_value.specs.Layout.{IsWithin};
 
 use crate::digits::read_number;
@@ -16,7 +16,7 @@ use std::alloc::{AllocError, Global};
 pub enum LiteralError {
     /// The text is none of those that are read: its first `place` bytes begin one, and no more do.
     Bad { place: usize },
-    /// Want of memory.
+    /// Out of memory.
     OutOfMemory,
 }
 
@@ -34,7 +34,7 @@ impl From<AllocError> for LiteralError {
 /// The value of the literal that `text` is: decimal digits, `-` directly followed by decimal digits, or a quoted text;
 /// memory for a text comes from `alloc`. A number has 64 bits, and leading zeros are allowed; a quoted text means at most
 /// 256 bytes. `Bad` exactly where `text` is no literal: `place` is the length of the longest front that begins one.
-/// `OutOfMemory` for want of memory.
+/// `OutOfMemory` when memory runs out.
 pub fn read_literal(alloc: Global, text: &str) -> Result<Value, LiteralError>
     ensures ok { IfOk result (λ value. IsLiteral text.now value) }
     ensures bad { IfErr result (IsRefused IsSomeLiteral text.now) }
@@ -48,7 +48,7 @@ pub fn read_literal(alloc: Global, text: &str) -> Result<Value, LiteralError>
 }
 
 /// The value that is printed as `text`; memory for a text comes from `alloc`. `Bad` exactly where no value is: `place` is
-/// the length of the longest front that begins the text of one. `OutOfMemory` for want of memory.
+/// the length of the longest front that begins the text of one. `OutOfMemory` when memory runs out.
 pub fn read_value(alloc: Global, text: &str) -> Result<Value, LiteralError>
     ensures ok { IfOk result (λ value. IsPrinted text.now value) }
     ensures bad { IfErr result (IsRefused IsSomePrinted text.now) }
@@ -70,7 +70,7 @@ pub fn one_literal()
 
 /// Two values are not printed alike.
 pub fn one_printed()
-    ensures { (a b : Value) → IsWithin a → IsWithin b → printed a ≡ printed b → a ≡ b }
+    ensures { (a b : Value) → IsWithin a → IsWithin b → printed_value a ≡ printed_value b → a ≡ b }
 {}
 
 // The quoted text that all of `text` is, in a form of `form`.

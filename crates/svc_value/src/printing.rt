@@ -3,7 +3,7 @@ ghost use Rattle.std.specs.Prelude.{◌≡◌, ◌<◌, ◌++◌, true, false, O
 ghost use Rattle.std.specs.Fmt.{digit_glyph, signed_decimal};
 ghost use Rattle.std.specs.List.{position};
 ghost use Rattle.std.specs.Io.{StartsWith};
-ghost use Rattle.svc_value.specs.Printed.{is_escaped, quoted_byte, quoted, fault_text, printed};
+ghost use Rattle.svc_value.specs.Printed.{is_escaped, quoted_byte, between_quotes, fault_text, printed_value};
 
 use crate::{Fault, OutOfMemory, Value};
 use itoa::Buffer;
@@ -11,7 +11,7 @@ use itoa::Buffer;
 /// Appends the text of `value`: decimal digits with `-` where negative, a quoted text in which each character that does
 /// not stand for itself is escaped, or `!` and the name of a fault. After `OutOfMemory` `out` is as it was.
 pub fn print_value(value: &Value, out: &mut Vec<u8>) -> Result<(), OutOfMemory>
-    ensures ok { OnOk result (out.new.items ≡ out.old.items ++ printed value.now) }
+    ensures ok { OnOk result (out.new.items ≡ out.old.items ++ printed_value value.now) }
     ensures err { OnErr result (out.new.items ≡ out.old.items) }
 {
     match value {
@@ -52,7 +52,7 @@ pub(crate) fn fault_text(fault: Fault) -> &'static str
 }
 
 fn print_text(text: &[u8], out: &mut Vec<u8>) -> Result<(), OutOfMemory>
-    ensures ok { OnOk result (out.new.items ≡ out.old.items ++ quoted text.now) }
+    ensures ok { OnOk result (out.new.items ≡ out.old.items ++ between_quotes text.now) }
     ensures err { OnErr result (out.new.items ≡ out.old.items) }
 {
     let start = out.len();
@@ -66,7 +66,7 @@ fn print_text(text: &[u8], out: &mut Vec<u8>) -> Result<(), OutOfMemory>
 // The text between quotes; after `OutOfMemory` a front of it may stand behind what was there.
 #[tactic(auto, using(crate::proofs::Quoting::escaped_there))]
 fn print_quoted(text: &[u8], out: &mut Vec<u8>) -> Result<(), OutOfMemory>
-    ensures ok { OnOk result (out.new.items ≡ out.old.items ++ quoted text.now) }
+    ensures ok { OnOk result (out.new.items ≡ out.old.items ++ between_quotes text.now) }
     ensures kept { StartsWith out.new.items out.old.items }
 {
     out.push(b'"')?;

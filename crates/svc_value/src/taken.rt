@@ -7,7 +7,7 @@ ghost use Rattle.svc_value.specs.Prefix.{IsPlace};
 ghost use Rattle.svc_value.specs.Taken.{HasTextLen, IsAtFront, IsRefusedValue};
 ghost use Rattle.svc_value.specs.Utf8Front.{IsTextOf, char_len};
 
-use crate::{Fault, LONGEST_TEXT, OutOfMemory, Value, ValueText};
+use crate::{Fault, MAX_TEXT_LEN, OutOfMemory, Value, ValueText};
 use std::alloc::Global;
 use std::str;
 use std::str::Utf8Error;
@@ -32,7 +32,7 @@ pub enum ValueReason {
 pub enum ValueError {
     /// No front of the bytes is a value: the first `place` of them begin one, no more do, for this reason.
     Bad { place: usize, reason: ValueReason },
-    /// Want of memory.
+    /// Out of memory.
     OutOfMemory,
 }
 
@@ -49,7 +49,7 @@ impl From<OutOfMemory> for ValueError {
 
 /// The value whose bytes `bytes` begin with, and how many they are; a text is copied to memory of `alloc`. `Bad` exactly
 /// where they begin with none: `place` is the length of the longest front that begins a value, and `reason` the field of
-/// the byte behind it, or `Short` exactly where `place` is the whole length. `OutOfMemory` for want of memory.
+/// the byte behind it, or `Short` exactly where `place` is the whole length. `OutOfMemory` when memory runs out.
 #[tactic(auto, using(crate::proofs::ValuePlaces::nothing_bad, crate::proofs::ValuePlaces::tag_bad))]
 pub fn take_value(alloc: Global, bytes: &[u8]) -> Result<(Value, usize), ValueError>
     ensures ok { IfOk result (λ taken. IsAtFront bytes.now taken.0 taken.1) }
@@ -169,7 +169,7 @@ fn text_len(rest: &[u8]) -> Result<usize, ValueError>
         });
     }
     let len = usize::from(rest[0]) * 256 + usize::from(rest[1]);
-    if len > LONGEST_TEXT {
+    if len > MAX_TEXT_LEN {
         return Err(ValueError::Bad {
             place: 2,
             reason: ValueReason::Length,

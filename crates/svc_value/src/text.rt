@@ -8,7 +8,7 @@ use std::alloc::Global;
 use std::marker::Model;
 
 /// The most bytes that a text has.
-pub const LONGEST_TEXT: usize = 256;
+pub const MAX_TEXT_LEN: usize = 256;
 
 /// A text of at most 256 bytes of UTF-8. Contracts see it as its bytes.
 #[derive(Debug, Drop)]
@@ -32,7 +32,7 @@ impl Model for ValueText {
 pub enum TextError {
     /// The text has `len` bytes, more than 256.
     TooLong { len: usize },
-    /// Want of memory.
+    /// Out of memory.
     OutOfMemory,
 }
 
@@ -49,13 +49,13 @@ impl From<OutOfMemory> for TextError {
 
 impl ValueText {
     /// The text with the characters of `text`, copied to memory of `alloc`. `TooLong` exactly where it has more than 256
-    /// bytes, with their number; `OutOfMemory` for want of memory.
+    /// bytes, with their number; `OutOfMemory` when memory runs out.
     pub fn new(alloc: Global, text: &str) -> Result<ValueText, TextError>
         ensures text { IfOk result (λ made. made ≡ text.now) }
         ensures fits { IfOk result (λ _. length text.now ≤ 256) }
         ensures too_long { IfErr result (λ e. (len : _) → e ≡ TextError.TooLong len → (len ≡ length text.now) × (256 < length text.now)) }
     {
-        if text.len() > LONGEST_TEXT {
+        if text.len() > MAX_TEXT_LEN {
             return Err(TextError::TooLong { len: text.len() });
         }
         Ok(ValueText::kept(alloc, text)?)

@@ -6,7 +6,7 @@ use Rattle.svc_value.specs.declared.value.Fault.{Fault}
 use Rattle.svc_value.specs.declared.value.Fault.TheVariants.{Overflow, Zero, Long, Number, Empty}
 use Rattle.svc_value.specs.declared.value.Value.{Value}
 use Rattle.svc_value.specs.declared.value.Value.TheVariants.{Int, Words, Bad}
-use Rattle.svc_value.specs.Printed.{is_escaped, hex_escape, quoted_byte, fault_text, printed}
+use Rattle.svc_value.specs.Printed.{is_escaped, hex_escape, quoted_byte, fault_text, printed_value}
 
 -- none of the bytes is LF
 abbrev pub Inside : List ℕ → Type 0
@@ -82,7 +82,7 @@ fault_inside Long = by_test (fault_text Long) refl
 fault_inside Number = by_test (fault_text Number) refl
 fault_inside Empty = by_test (fault_text Empty) refl
 
-pub printed_inside : (value : Value) → Inside (printed value)
+pub printed_inside : (value : Value) → Inside (printed_value value)
 printed_inside (Int number) = number_inside number
 printed_inside (Words text) = ((λ e. omega (arith, e)), Inside-append (flat_map quoted_byte text) (34 ∷ []) (text_inside text) (by_test (34 ∷ []) refl))
 printed_inside (Bad fault) = fault_inside fault

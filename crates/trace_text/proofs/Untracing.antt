@@ -4,14 +4,14 @@ use Rattle.std.proofs.Common.{◌≡◌, ◌≢◌, ◌∙◌, sym, ap, refl, su
 use Rattle.std.specs.Char.{is_ascii_alphabetic}
 use Rattle.std.specs.List.{list_all}
 use Rattle.svc_graph.specs.declared.definition.Change.{Change}
-use Rattle.svc_graph.specs.History.{Row, changed}
+use Rattle.svc_graph.specs.History.{Row, rows_after_change}
 use Rattle.svc_plan.specs.declared.plan.Leg.{Leg}
 use Rattle.svc_plan.specs.declared.plan.PlanChange.{PlanChange}
 use Rattle.svc_plan.specs.declared.plan.ServiceLine.{ServiceLine}
 use Rattle.svc_plan.specs.Rows.{row_of}
 use Rattle.svc_plan.specs.Rows.{with_services, with_changes, rows_after, AreServicesAfter, AreLegsAfter}
 use Rattle.svc_token.specs.Word.{is_word_byte, is_word, IsName}
-use Rattle.svc_value.specs.Printed.{printed}
+use Rattle.svc_value.specs.Printed.{printed_value}
 use Rattle.svc_value.specs.declared.value.Value.{Value}
 use Rattle.svc_value.specs.declared.value.Value.TheVariants.{Int}
 use Rattle.trace_text.specs.Names.{HaveNames}
@@ -69,10 +69,10 @@ word_plain (b ∷ bytes) rest h =
 -- the line of a service
 value_line_stays : (row : Row) (value : Value) (rest : List ℕ) → IsName row.name → untraced (value_line row value ++ rest) ≡ value_line row value ++ untraced rest
 value_line_stays row value rest name =
-    let line : List ℕ = row.name ++ codes " " ++ printed value in
-    let inside : Inside line = Inside-append (row.name ++ codes " ") (printed value) (Inside-append row.name (codes " ") (word_inside row.name name.is_word) (by_test (codes " ") refl)) (printed_inside value) in
-    let named : line ++ 10 ∷ [] ≡ row.name ++ (codes " " ++ (printed value ++ 10 ∷ [])) = append_assoc (row.name ++ codes " ") (printed value) (10 ∷ []) ∙ append_assoc row.name (codes " ") (printed value ++ 10 ∷ []) in
-    let plain : is_traced (line ++ 10 ∷ []) ≡ false = ap is_traced named ∙ word_plain row.name (codes " " ++ (printed value ++ 10 ∷ [])) name.is_word in
+    let line : List ℕ = row.name ++ codes " " ++ printed_value value in
+    let inside : Inside line = Inside-append (row.name ++ codes " ") (printed_value value) (Inside-append row.name (codes " ") (word_inside row.name name.is_word) (by_test (codes " ") refl)) (printed_inside value) in
+    let named : line ++ 10 ∷ [] ≡ row.name ++ (codes " " ++ (printed_value value ++ 10 ∷ [])) = append_assoc (row.name ++ codes " ") (printed_value value) (10 ∷ []) ∙ append_assoc row.name (codes " ") (printed_value value ++ 10 ∷ []) in
+    let plain : is_traced (line ++ 10 ∷ []) ≡ false = ap is_traced named ∙ word_plain row.name (codes " " ++ (printed_value value ++ 10 ∷ [])) name.is_word in
     ap untraced (append_assoc line (10 ∷ []) rest) ∙ line_stays line rest inside plain
 
 lines_stay : (rows : List Row) (values : List Value) (rest : List ℕ) → HaveNames rows → untraced (value_lines rows values ++ rest) ≡ value_lines rows values ++ untraced rest
@@ -86,8 +86,8 @@ lines_stay (row ∷ rows) (value ∷ values) rest names =
 
 settle_stays : (k : ℕ) (rest : List ℕ) → untraced (settle_line k ++ rest) ≡ settle_line k ++ untraced rest
 settle_stays k rest =
-    let line : List ℕ = codes "settle " ++ printed (Int (pos k)) in
-    let inside : Inside line = Inside-append (codes "settle ") (printed (Int (pos k))) (by_test (codes "settle ") refl) (printed_inside (Int (pos k))) in
+    let line : List ℕ = codes "settle " ++ printed_value (Int (pos k)) in
+    let inside : Inside line = Inside-append (codes "settle ") (printed_value (Int (pos k))) (by_test (codes "settle ") refl) (printed_inside (Int (pos k))) in
     ap untraced (append_assoc line (10 ∷ []) rest) ∙ line_stays line rest inside refl
 
 block_stays : (k : ℕ) (rows : List Row) (values : List Value) (rest : List ℕ) → HaveNames rows →
@@ -108,14 +108,14 @@ names_append rows (line ∷ lines) names each =
     one [] have = (each.0.name, tt)
     one (row ∷ rows) have = (have.0, one rows have.1)
 
-names_changed : (rows : List Row) (n : ℕ) (change : Change) → HaveNames rows → HaveNames (changed rows n change)
+names_changed : (rows : List Row) (n : ℕ) (change : Change) → HaveNames rows → HaveNames (rows_after_change rows n change)
 names_changed [] n change names = tt
 names_changed (row ∷ rows) zero change names = names
 names_changed (row ∷ rows) (suc n) change names = (names.0, names_changed rows n change names.1)
 
 names_after_changes : (rows : List Row) (changes : List PlanChange) → HaveNames rows → HaveNames (with_changes rows changes)
 names_after_changes rows [] names = names
-names_after_changes rows (change ∷ changes) names = names_after_changes (changed rows change.id change.change) changes (names_changed rows change.id change.change names)
+names_after_changes rows (change ∷ changes) names = names_after_changes (rows_after_change rows change.id change.change) changes (names_changed rows change.id change.change names)
 
 names_after : (rows : List Row) (leg : Leg) → HaveNames rows → AreServicesAfter rows leg.services → HaveNames (rows_after rows leg)
 names_after rows leg names each = names_after_changes (with_services rows leg.services) leg.changes (names_append rows leg.services names each)

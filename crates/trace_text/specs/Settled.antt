@@ -4,13 +4,13 @@ use Rattle.svc_graph.specs.Central.{AreCentral}
 use Rattle.svc_graph.specs.History.{Row}
 use Rattle.svc_plan.specs.declared.plan.Leg.{Leg}
 use Rattle.svc_plan.specs.Rows.{rows_after}
-use Rattle.svc_value.specs.Printed.{printed}
+use Rattle.svc_value.specs.Printed.{printed_value}
 use Rattle.svc_value.specs.declared.value.Value.{Value}
 use Rattle.svc_value.specs.declared.value.Value.TheVariants.{Int}
 
 -- the name of a service, a blank and its value
 abbrev pub value_line : Row → Value → List ℕ
-value_line row value = row.name ++ codes " " ++ printed value ++ codes "\n"
+value_line row value = row.name ++ codes " " ++ printed_value value ++ codes "\n"
 
 -- such a line for each service, in order
 abbrev pub value_lines : List Row → List Value → List ℕ
@@ -20,7 +20,7 @@ value_lines (row ∷ rows) (value ∷ values) = value_line row value ++ value_li
 
 -- `settle` and the number of the leg
 abbrev pub settle_line : ℕ → List ℕ
-settle_line k = codes "settle " ++ printed (Int (pos k)) ++ codes "\n"
+settle_line k = codes "settle " ++ printed_value (Int (pos k)) ++ codes "\n"
 
 -- the block of the k-th leg: its settle line, and then the value lines
 abbrev pub settled_block : ℕ → List Row → List Value → List ℕ

@@ -1,7 +1,7 @@
 // The settled text.
 ghost use Rattle.std.specs.Prelude.{◌≡◌, ◌++◌, length, codes, OnOk, OnErr};
 ghost use Rattle.std.specs.Io.{StartsWith};
-ghost use Rattle.svc_value.specs.Printed.{printed};
+ghost use Rattle.svc_value.specs.Printed.{printed_value};
 ghost use Rattle.trace_text.specs.Settled.{settle_line, settled_block};
 
 use svc_graph::Book;
@@ -30,7 +30,7 @@ pub fn settled_text(
 
 // Appends the line of a service, of which a front may stand behind `out` after `OutOfMemory`.
 fn append_line(name: &str, value: &Value, out: &mut Vec<u8>) -> Result<(), OutOfMemory>
-    ensures ok { OnOk result (out.new.items ≡ out.old.items ++ (name.now ++ codes " " ++ printed value.now ++ codes "\n")) }
+    ensures ok { OnOk result (out.new.items ≡ out.old.items ++ (name.now ++ codes " " ++ printed_value value.now ++ codes "\n")) }
     ensures kept { StartsWith out.new.items out.old.items }
 {
     out.extend_from_slice(name.as_bytes())?;

@@ -18,7 +18,7 @@ fn lines_are_cut(rt: HostRuntime) -> Result<(), Fail> {
     let rows = [
         (
             "a<=-1",
-            r#"[Name(LentName { text: "a" }), LessOrEqual, Dash, Number(1)]"#,
+            r#"[Name(NameRef { text: "a" }), LessOrEqual, Dash, Number(1)]"#,
         ),
         ("+++ - 007", "[Join, Plus, Minus, Number(7)]"),
         (
@@ -27,7 +27,10 @@ fn lines_are_cut(rt: HostRuntime) -> Result<(), Fail> {
         ),
         ("_", "none"),
         ("1a", "none"),
-        (r#""\"" "#, r#"[Quoted(Span { bytes: [34, 92, 34, 34] })]"#),
+        (
+            r#""\"" "#,
+            r#"[Quoted(BytesRef { bytes: [34, 92, 34, 34] })]"#,
+        ),
         (r#""\""#, "none"),
         ("", "[]"),
     ];

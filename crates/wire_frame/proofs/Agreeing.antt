@@ -8,7 +8,7 @@ use Rattle.wire_frame.specs.declared.frame.Frame.TheVariants.{Subscribe, Unsubsc
 use Rattle.wire_frame.specs.declared.reason.FrameReason.{FrameReason}
 use Rattle.wire_frame.specs.declared.reason.FrameReason.TheVariants.{Short, Kind, Epoch, Count}
 use Rattle.wire_frame.specs.declared.reason.FrameReason.TheVariants as field
-use Rattle.wire_frame.specs.Bodies.{counted, under, valued, announced_body, cargo_body, delta_body, of_announced, of_cargo, of_delta, frame_part}
+use Rattle.wire_frame.specs.Bodies.{counted_items, under, valued, announced_body, cargo_body, delta_body, of_announced, of_cargo, of_delta, frame_part}
 use Rattle.wire_frame.specs.Fields.{frame_fields}
 use Rattle.wire_frame.specs.Frames.{frame_bytes}
 use Rattle.wire_frame.specs.Parts.{Part, chain, clock_part, byte_part, value_part}
@@ -102,7 +102,7 @@ run-agree {X} items r alike least (suc n) (x ∷ xs) (y ∷ ys) place good_x goo
     (λ a b place _ _ _ _ _. ap (λ fs. get_or fs place Short) (alike a b))
     (λ z. run-agree items r alike (items.least_after z) n) (x, xs) (y, ys) place good_x good_y e l m
 
-counted-agree : {X : Type 0} (items : Items X) (least : ℕ) → HaveRoom items → ((x y : X) → items.fields x ≡ items.fields y) → Agree (counted items least)
+counted-agree : {X : Type 0} (items : Items X) (least : ℕ) → HaveRoom items → ((x y : X) → items.fields x ≡ items.fields y) → Agree (counted_items items least)
 counted-agree items least h alike = chain-agree (byte_part Count least 64) (λ n. run_part items 0 n) (byte-one_way Count least 64) (byte-fields Count least 64) (byte-agree Count least 64)
     (λ n. run-agree items h.readable alike 0 n)
 
@@ -113,13 +113,13 @@ valued-agree : {X : Type 0} (body : Part X) → Agree body → Agree (valued bod
 valued-agree body agree = chain-agree value_part (λ _. body) value-one_way value-fields value-agree (λ _. agree)
 
 announced-agree : Agree announced_body
-announced-agree = under-agree (counted key_items 1) (counted-agree key_items 1 keys_have (λ x y. refl))
+announced-agree = under-agree (counted_items key_items 1) (counted-agree key_items 1 keys_have (λ x y. refl))
 
 cargo-agree : Agree cargo_body
-cargo-agree = under-agree (valued (counted clock_items 1)) (valued-agree (counted clock_items 1) (counted-agree clock_items 1 clocks_have (λ x y. refl)))
+cargo-agree = under-agree (valued (counted_items clock_items 1)) (valued-agree (counted_items clock_items 1) (counted-agree clock_items 1 clocks_have (λ x y. refl)))
 
 delta-agree : Agree delta_body
-delta-agree = under-agree (valued (counted place_items 0)) (valued-agree (counted place_items 0) (counted-agree place_items 0 places_have (λ x y. refl)))
+delta-agree = under-agree (valued (counted_items place_items 0)) (valued-agree (counted_items place_items 0) (counted-agree place_items 0 places_have (λ x y. refl)))
 
 first_field : (frame : Frame) → get_or (frame_fields frame) 0 Short ≡ Kind
 first_field (Subscribe x) = refl

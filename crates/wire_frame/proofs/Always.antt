@@ -2,7 +2,7 @@
 use Rattle.std.proofs.Common.{◌≡◌, ◌∙◌, sym, ap, refl, subst, ℕ, zero, suc, ◌+◌, ◌≤◌, ◌⊎◌, inl, Bool, true, false, cond, List, [], ◌∷◌, ◌++◌, length, take, drop, arith, append_assoc, All, flat_map}
 use Rattle.std.proofs.lemmas.Bool.Decides.{nat_tests}
 use Rattle.std.proofs.lemmas.List.{length-take, length-drop, drop-drop, get_or-drop}
-use Rattle.wire_frame.specs.Stream.{framed, size_at, begins, IsByte, IsItem, IsPartial, IsTooLong, Splits, items_in, items_of}
+use Rattle.wire_frame.specs.Stream.{framed_item, size_at, begins, IsByte, IsItem, IsPartial, IsTooLong, Splits, items_in, items_of}
 use Rattle.wire_frame.proofs.Fronts.{front_item}
 
 stuck_where : (bytes : List ℕ) → begins bytes ≡ false → IsPartial bytes ⊎ IsTooLong bytes
@@ -23,12 +23,12 @@ all_cons x xs p h (suc k) d l = h k d (omega arith)
 
 -- no item is in front
 stuck_at : (bytes : List ℕ) (items : List (List ℕ)) → items ≡ [] → IsPartial bytes ⊎ IsTooLong bytes → Splits bytes items bytes
-stuck_at bytes items e h = record { whole = ap (λ xs. flat_map framed xs ++ bytes) (sym e); each = none_in items e; stuck = h }
+stuck_at bytes items e h = record { whole = ap (λ xs. flat_map framed_item xs ++ bytes) (sym e); each = none_in items e; stuck = h }
 
 -- an item is in front of what splits
-begun_at : (bytes item more rest : List ℕ) (items all : List (List ℕ)) → bytes ≡ framed item ++ more → IsItem item → Splits more items rest → all ≡ item ∷ items → Splits bytes all rest
+begun_at : (bytes item more rest : List ℕ) (items all : List (List ℕ)) → bytes ≡ framed_item item ++ more → IsItem item → Splits more items rest → all ≡ item ∷ items → Splits bytes all rest
 begun_at bytes item more rest items all front fits s e = subst (λ xs. Splits bytes xs rest) (sym e) record {
-  whole = front ∙ ap (λ b. framed item ++ b) s.whole ∙ sym (append_assoc (framed item) (flat_map framed items) rest);
+  whole = front ∙ ap (λ b. framed_item item ++ b) s.whole ∙ sym (append_assoc (framed_item item) (flat_map framed_item items) rest);
   each = all_cons item items fits s.each;
   stuck = s.stuck;
 }
@@ -46,7 +46,7 @@ splits_step n bytes true e h le ih =
     let more = drop (size + 2) bytes in
     let w = begun_where bytes e in
     let same : more ≡ drop size (drop 2 bytes) = ap (λ k. drop k bytes) (omega arith) ∙ sym (drop-drop size 2 bytes) in
-    let front : bytes ≡ framed item ++ more = front_item bytes item more size (h 1 0 (omega (arith, w.0))) refl (w.2) refl same in
+    let front : bytes ≡ framed_item item ++ more = front_item bytes item more size (h 1 0 (omega (arith, w.0))) refl (w.2) refl same in
     let fits : IsItem item = omega (arith, w.1, length-take size (drop 2 bytes)) in
     let r = ih more (all_dropped (size + 2) bytes h) (omega (arith, w.2, length-drop (size + 2) bytes)) in
     let first : items_in (suc n) bytes ≡ item ∷ items_in n more = ap (λ b. cond b (item ∷ items_in n more) []) e in

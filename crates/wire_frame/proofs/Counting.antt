@@ -6,7 +6,7 @@ use Rattle.svc_value.specs.declared.value.Value.{Value}
 use Rattle.svc_value.specs.declared.value.Value.TheVariants.{Bad}
 use Rattle.wire_frame.specs.declared.errors.FrameError.{FrameError}
 use Rattle.wire_frame.specs.declared.reason.FrameReason.TheVariants.{Count, Epoch}
-use Rattle.wire_frame.specs.Bodies.{counted, under, valued}
+use Rattle.wire_frame.specs.Bodies.{counted_items, under, valued}
 use Rattle.wire_frame.specs.Parts.{Part, Stands, Fails, byte_part, clock_part, value_part}
 use Rattle.wire_frame.specs.Runs.{Items, IsRun, run_part, key_items, clock_items, place_items}
 use Rattle.wire_frame.proofs.Digits.{byte-one_way, byte-fields, clock-one_way, clock-fields}
@@ -38,28 +38,28 @@ run_length items least (suc n) (x ∷ xs) run = ap suc (run_length items (items.
 
 -- ---- the number, and the items
 
-pub counted-one_way : {X : Type 0} (items : Items X) (least : ℕ) → HaveRoom items → OneWay (counted items least)
+pub counted-one_way : {X : Type 0} (items : Items X) (least : ℕ) → HaveRoom items → OneWay (counted_items items least)
 counted-one_way items least h = chain-one_way (byte_part Count least 64) (λ n. run_part items 0 n) (byte-one_way Count least 64) (λ n. run-one_way items h.readable 0 n)
 
-pub counted_some : {X : Type 0} (items : Items X) (least : ℕ) → HaveRoom items → least ≤ 64 → (p : ℕ × List X) × (counted items least).Good p
+pub counted_some : {X : Type 0} (items : Items X) (least : ℕ) → HaveRoom items → least ≤ 64 → (p : ℕ × List X) × (counted_items items least).Good p
 counted_some items least h l = let xs = h.some least l in ((least, xs.0), ((omega arith, l), xs.1))
 
 pub counted_fails_count : {X : Type 0} (items : Items X) (least : ℕ) (bytes : List ℕ) (at : ℕ) (e : FrameError) → HaveRoom items →
-    Fails (byte_part Count least 64) bytes at e → Fails (counted items least) bytes at e
+    Fails (byte_part Count least 64) bytes at e → Fails (counted_items items least) bytes at e
 counted_fails_count items least bytes at e h w =
     fails_first (byte_part Count least 64) (λ n. run_part items 0 n) bytes at e (byte-one_way Count least 64) (byte-fields Count least 64) (λ n good. h.some n good.1) w
 
 pub counted_fails_items : {X : Type 0} (items : Items X) (least n : ℕ) (bytes : List ℕ) (at to : ℕ) (e : FrameError) →
-    Stands (byte_part Count least 64) n bytes at to → Fails (run_part items 0 n) bytes to e → Fails (counted items least) bytes at e
+    Stands (byte_part Count least 64) n bytes at to → Fails (run_part items 0 n) bytes to e → Fails (counted_items items least) bytes at e
 counted_fails_items items least n bytes at to e s w =
     fails_second (byte_part Count least 64) (λ n. run_part items 0 n) bytes at to n e (byte-one_way Count least 64) (byte-fields Count least 64) s w
 
 pub counted_stands : {X : Type 0} (items : Items X) (least n : ℕ) (xs : List X) (bytes : List ℕ) (at middle to end : ℕ) →
-    Stands (byte_part Count least 64) n bytes at middle → Stands (run_part items 0 n) xs bytes middle to → to ≡ end → Stands (counted items least) (length xs, xs) bytes at end
+    Stands (byte_part Count least 64) n bytes at middle → Stands (run_part items 0 n) xs bytes middle to → to ≡ end → Stands (counted_items items least) (length xs, xs) bytes at end
 counted_stands {X} items least n xs bytes at middle to end s t e =
     let both = stands_both (byte_part Count least 64) (λ n. run_part items 0 n) bytes at middle to n xs s t in
-    let named = subst (λ k. Stands (counted items least) (k, xs) bytes at to) (sym (run_length items 0 n xs t.good)) both in
-    subst (λ k. Stands (counted items least) (length xs, xs) bytes at k) e named
+    let named = subst (λ k. Stands (counted_items items least) (k, xs) bytes at to) (sym (run_length items 0 n xs t.good)) both in
+    subst (λ k. Stands (counted_items items least) (length xs, xs) bytes at k) e named
 
 -- ---- an epoch, and what stands under it
 
@@ -91,7 +91,7 @@ run-fields items least n r [] = refl
 run-fields items least n r (x ∷ xs) =
     omega (arith, r.each x, run-fields items least n r xs, length-append (items.fields x) (flat_map items.fields xs), length-append (items.bytes x) (flat_map items.bytes xs))
 
-pub counted-fields : {X : Type 0} (items : Items X) (least : ℕ) → HaveRoom items → EachHasField (counted items least)
+pub counted-fields : {X : Type 0} (items : Items X) (least : ℕ) → HaveRoom items → EachHasField (counted_items items least)
 counted-fields items least h = chain-fields (byte_part Count least 64) (λ n. run_part items 0 n) (byte-fields Count least 64) (λ n. run-fields items 0 n h.readable)
 
 pub under-one_way : {X : Type 0} (body : Part X) → OneWay body → OneWay (under body)

@@ -6,7 +6,7 @@ use Rattle.std.proofs.lemmas.Bool.{cases_lt}
 use Rattle.std.proofs.lemmas.Nat.{be_bytes_4, from_be_bytes-to_be_bytes_4}
 use Rattle.wire_frame.specs.declared.reason.FrameReason.{FrameReason}
 use Rattle.wire_frame.specs.declared.reason.FrameReason.TheVariants.{Short, Ids}
-use Rattle.wire_frame.specs.Frames.{word, half}
+use Rattle.wire_frame.specs.Frames.{u32_bytes, u16_bytes}
 use Rattle.wire_frame.specs.Parts.{IsWrong, IsNext, clock_part, byte_part, key_part}
 use Rattle.wire_frame.proofs.Parts.{OneWay, EachHasField}
 
@@ -16,7 +16,7 @@ AreBytes bytes = (i : ℕ) → get_or bytes i 0 < 256
 -- ---- clocks
 
 -- four digits give their number back
-pub same_word : (x y : ℕ) (s t : List ℕ) → x < 2 ^ 32 → y < 2 ^ 32 → word x ++ s ≡ word y ++ t → x ≡ y
+pub same_word : (x y : ℕ) (s t : List ℕ) → x < 2 ^ 32 → y < 2 ^ 32 → u32_bytes x ++ s ≡ u32_bytes y ++ t → x ≡ y
 same_word x y s t small_x small_y e =
     sym (from_be_bytes-to_be_bytes_4 x small_x) ∙ ap (λ bs. from_be_bytes w32 (take 4 bs)) e ∙ from_be_bytes-to_be_bytes_4 y small_y
 
@@ -33,7 +33,7 @@ clock_like field bytes a b c d small_a small_b small_c small_d some short begun 
     let all = a ∷ b ∷ c ∷ d ∷ [] in
     let n = from_be_bytes w32 all in
     let fits : (i : ℕ) → get_or all i 0 < 256 = λ i. four i in
-    let spelled : word n ≡ all = be_bytes_4 all n refl fits refl in
+    let spelled : u32_bytes n ≡ all = be_bytes_4 all n refl fits refl in
     record {
       like = n;
       good = (omega arith, omega arith);
@@ -63,7 +63,7 @@ clock_short field (a ∷ (b ∷ (c ∷ []))) fits l = clock_like field (a ∷ b 
 clock_short field (a ∷ (b ∷ (c ∷ (d ∷ bytes)))) fits l = absurd (omega arith)
 
 -- the four bytes of a clock stand in front
-front_word : (a b c d n : ℕ) (more : List ℕ) → AreBytes (a ∷ b ∷ c ∷ d ∷ more) → n ≡ from_be_bytes w32 (a ∷ b ∷ c ∷ d ∷ more) → word n ≡ a ∷ b ∷ c ∷ d ∷ []
+front_word : (a b c d n : ℕ) (more : List ℕ) → AreBytes (a ∷ b ∷ c ∷ d ∷ more) → n ≡ from_be_bytes w32 (a ∷ b ∷ c ∷ d ∷ more) → u32_bytes n ≡ a ∷ b ∷ c ∷ d ∷ []
 front_word a b c d n more fits e = be_bytes_4 (a ∷ b ∷ c ∷ d ∷ []) n refl (λ i. four i) e
   where
     four : (i : ℕ) → get_or (a ∷ b ∷ c ∷ d ∷ []) i 0 < 256
@@ -93,7 +93,7 @@ clock_zero field (a ∷ (b ∷ (c ∷ (d ∷ more)))) fits l e =
     let no_a : 0 ≡ a = omega (arith, fits 0, fits 1, fits 2, fits 3) in
     let no_b : 0 ≡ b = omega (arith, fits 0, fits 1, fits 2, fits 3) in
     let no_c : 0 ≡ c = omega (arith, fits 0, fits 1, fits 2, fits 3) in
-    let spelled : word 0 ≡ a ∷ b ∷ c ∷ d ∷ [] = front_word a b c d 0 more fits e in
+    let spelled : u32_bytes 0 ≡ a ∷ b ∷ c ∷ d ∷ [] = front_word a b c d 0 more fits e in
     record {
       like = 1;
       good = (omega arith, omega arith);
@@ -149,7 +149,7 @@ byte_wrong field least most (b ∷ bytes) n some l e out = record {
 
 -- ---- keys
 
-pub same_half : (x y : ℕ) (s t : List ℕ) → x < 2 ^ 16 → y < 2 ^ 16 → half x ++ s ≡ half y ++ t → x ≡ y
+pub same_half : (x y : ℕ) (s t : List ℕ) → x < 2 ^ 16 → y < 2 ^ 16 → u16_bytes x ++ s ≡ u16_bytes y ++ t → x ≡ y
 same_half x y s t small_x small_y e =
     let high : x / 256 % 256 ≡ y / 256 % 256 = ap (λ bs. get_or bs 0 0) e in
     let low : x % 256 ≡ y % 256 = ap (λ bs. get_or bs 1 0) e in

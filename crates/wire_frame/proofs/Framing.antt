@@ -5,7 +5,7 @@ use Rattle.wire_frame.specs.declared.frame.Frame.{Frame}
 use Rattle.wire_frame.specs.declared.reason.FrameReason.{FrameReason}
 use Rattle.wire_frame.specs.Frames.{frame_bytes, FrameOf}
 use Rattle.wire_frame.specs.Framing.{Unread, IsAnswered, IsNoFrame, IsWrongNext}
-use Rattle.wire_frame.specs.Stream.{framed, size_at, IsFront, IsPartial}
+use Rattle.wire_frame.specs.Stream.{framed_item, size_at, IsFront, IsPartial}
 use Rattle.wire_frame.specs.Taking.{IsAtFront}
 use Rattle.wire_frame.proofs.Agreeing.{bad_once}
 use Rattle.wire_frame.proofs.Cutting.{too_long_more}
@@ -58,10 +58,10 @@ wrong_once held m n why other (inr p) (inr q) =
 front_more : (held more item : List ℕ) → IsFront held item → IsFront (held ++ more) item
 front_more held more item f =
     let rest = drop (length item + 2) held in
-    let spelled : held ++ more ≡ framed item ++ (rest ++ more) = ap (λ bs. bs ++ more) f.whole ∙ append_assoc (framed item) rest more in
+    let spelled : held ++ more ≡ framed_item item ++ (rest ++ more) = ap (λ bs. bs ++ more) f.whole ∙ append_assoc (framed_item item) rest more in
     record {
-      whole = spelled ∙ ap (λ bs. framed item ++ bs)
-          (sym (drop_at (framed item) (rest ++ more) (length item + 2) (omega arith)) ∙ ap (drop (length item + 2)) (sym spelled));
+      whole = spelled ∙ ap (λ bs. framed_item item ++ bs)
+          (sym (drop_at (framed_item item) (rest ++ more) (length item + 2) (omega arith)) ∙ ap (drop (length item + 2)) (sym spelled));
       fits = f.fits;
     }
 
@@ -78,9 +78,9 @@ wrong_is_whole held place why (inr p) (inr part) = omega (arith, front_long held
 pub wrong_is_none : (old new : Unread) (frame : Frame) (place : ℕ) (why : FrameReason) → IsAnswered old new frame → IsWrongNext old.held place why → ⊥
 wrong_is_none old new frame place why a w =
     let bytes = frame_bytes frame in
-    let rest : drop (length bytes + 2) old.held ≡ new.held = ap (drop (length bytes + 2)) a.whole ∙ drop_at (framed bytes) new.held (length bytes + 2) (omega arith) in
+    let rest : drop (length bytes + 2) old.held ≡ new.held = ap (drop (length bytes + 2)) a.whole ∙ drop_at (framed_item bytes) new.held (length bytes + 2) (omega arith) in
     let front : IsFront old.held bytes = record {
-      whole = a.whole ∙ ap (λ bs. framed bytes ++ bs) (sym rest);
+      whole = a.whole ∙ ap (λ bs. framed_item bytes ++ bs) (sym rest);
       fits = frame_length frame (a.frame_of.within, a.frame_of.fits);
     } in by w front
   where

@@ -1,7 +1,7 @@
 -- The item at the front of a stream.
 use Rattle.std.proofs.Common.{◌≡◌, ◌∙◌, sym, ap, ℕ, ◌+◌, ◌*◌, ◌/◌, ◌%◌, ◌<◌, ◌≤◌, List, [], ◌∷◌, ◌++◌, length, get_or, take, drop, arith}
 use Rattle.std.proofs.lemmas.List.{length-take, take-append-drop}
-use Rattle.wire_frame.specs.Stream.{framed, size_at}
+use Rattle.wire_frame.specs.Stream.{framed_item, size_at}
 
 -- two digits give their number back
 high_of : (n h l : ℕ) → l < 256 → h * 256 + l ≡ n → n / 256 ≡ h
@@ -11,7 +11,7 @@ low_of : (n h l : ℕ) → l < 256 → h * 256 + l ≡ n → n % 256 ≡ l
 low_of n h l small e = omega arith
 
 pub front_item : (bytes item rest : List ℕ) (size : ℕ) → get_or bytes 1 0 < 256 → size_at bytes ≡ size → size + 2 ≤ length bytes →
-    item ≡ take size (drop 2 bytes) → rest ≡ drop size (drop 2 bytes) → bytes ≡ framed item ++ rest
+    item ≡ take size (drop 2 bytes) → rest ≡ drop size (drop 2 bytes) → bytes ≡ framed_item item ++ rest
 front_item [] item rest size small is long p q = absurd (omega arith)
 front_item (h ∷ []) item rest size small is long p q = absurd (omega arith)
 front_item (h ∷ (l ∷ bytes)) item rest size small is long p q =

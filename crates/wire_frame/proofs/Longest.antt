@@ -7,7 +7,7 @@ use Rattle.svc_value.specs.Layout.{layout, IsWithin}
 use Rattle.wire_frame.specs.declared.frame.Frame.{Frame}
 use Rattle.wire_frame.specs.declared.frame.Frame.TheVariants.{Subscribe, Unsubscribe, Sources, Carried, Changed}
 use Rattle.wire_frame.specs.Bodies.{frame_part}
-use Rattle.wire_frame.specs.Frames.{frame_bytes, word, half, place_clock}
+use Rattle.wire_frame.specs.Frames.{frame_bytes, u32_bytes, u16_bytes, place_clock}
 use Rattle.wire_frame.proofs.Rising.{places_fit}
 
 -- items of one length
@@ -25,9 +25,9 @@ layout_length (Bad f) w = omega arith
 pub frame_length : (frame : Frame) → frame_part.Good frame → length (frame_bytes frame) ≤ 585
 frame_length (Subscribe x) g = omega arith
 frame_length (Unsubscribe x) g = omega arith
-frame_length (Sources a) g = omega (arith, g.0.most, flat_length half 2 (λ x. refl) a.keys)
+frame_length (Sources a) g = omega (arith, g.0.most, flat_length u16_bytes 2 (λ x. refl) a.keys)
 frame_length (Carried a) g =
-    omega (arith, g.0.most, layout_length a.value g.1.1, flat_length word 4 (λ x. refl) a.clocks, length-append (layout a.value) (length a.clocks ∷ flat_map word a.clocks))
+    omega (arith, g.0.most, layout_length a.value g.1.1, flat_length u32_bytes 4 (λ x. refl) a.clocks, length-append (layout a.value) (length a.clocks ∷ flat_map u32_bytes a.clocks))
 frame_length (Changed a) g =
     omega (
       arith,

@@ -8,7 +8,7 @@ use Rattle.wire_frame.specs.declared.frame.Frame.{Frame}
 use Rattle.wire_frame.specs.declared.frame.Frame.TheVariants.{Subscribe, Unsubscribe, Sources, Carried, Changed}
 use Rattle.wire_frame.specs.declared.reason.FrameReason.{FrameReason}
 use Rattle.wire_frame.specs.declared.reason.FrameReason.TheVariants.{Short, Epoch}
-use Rattle.wire_frame.specs.Bodies.{counted, valued, announced_body, cargo_body, delta_body, of_announced, of_cargo, of_delta, frame_part}
+use Rattle.wire_frame.specs.Bodies.{counted_items, valued, announced_body, cargo_body, delta_body, of_announced, of_cargo, of_delta, frame_part}
 use Rattle.wire_frame.specs.Fields.{frame_fields}
 use Rattle.wire_frame.specs.Frames.{frame_bytes, FrameOf}
 use Rattle.wire_frame.specs.Parts.{IsWrong, Stands, Fails}
@@ -20,13 +20,13 @@ use Rattle.wire_frame.proofs.Parts.{OneWay, EachHasField}
 use Rattle.wire_frame.proofs.Whole.{announced_good, cargo_good, delta_good}
 
 announced-one_way : OneWay announced_body
-announced-one_way = under-one_way (counted key_items 1) (counted-one_way key_items 1 keys_have)
+announced-one_way = under-one_way (counted_items key_items 1) (counted-one_way key_items 1 keys_have)
 
 cargo-one_way : OneWay cargo_body
-cargo-one_way = under-one_way (valued (counted clock_items 1)) (valued-one_way (counted clock_items 1) (counted-one_way clock_items 1 clocks_have))
+cargo-one_way = under-one_way (valued (counted_items clock_items 1)) (valued-one_way (counted_items clock_items 1) (counted-one_way clock_items 1 clocks_have))
 
 delta-one_way : OneWay delta_body
-delta-one_way = under-one_way (valued (counted place_items 0)) (valued-one_way (counted place_items 0) (counted-one_way place_items 0 places_have))
+delta-one_way = under-one_way (valued (counted_items place_items 0)) (valued-one_way (counted_items place_items 0) (counted-one_way place_items 0 places_have))
 
 -- no frame's bytes begin another's
 pub frame-one_way : OneWay frame_part
@@ -46,9 +46,9 @@ frame-one_way f g s t good_x good_y e = absurd (omega (arith, ap (λ bs. get_or 
 pub frame-fields : EachHasField frame_part
 frame-fields (Subscribe x) = refl
 frame-fields (Unsubscribe x) = refl
-frame-fields (Sources a) = ap suc (under-fields (counted key_items 1) (counted-fields key_items 1 keys_have) (of_announced a))
-frame-fields (Carried a) = ap suc (under-fields (valued (counted clock_items 1)) (valued-fields (counted clock_items 1) (counted-fields clock_items 1 clocks_have)) (of_cargo a))
-frame-fields (Changed a) = ap suc (under-fields (valued (counted place_items 0)) (valued-fields (counted place_items 0) (counted-fields place_items 0 places_have)) (of_delta a))
+frame-fields (Sources a) = ap suc (under-fields (counted_items key_items 1) (counted-fields key_items 1 keys_have) (of_announced a))
+frame-fields (Carried a) = ap suc (under-fields (valued (counted_items clock_items 1)) (valued-fields (counted_items clock_items 1) (counted-fields clock_items 1 clocks_have)) (of_cargo a))
+frame-fields (Changed a) = ap suc (under-fields (valued (counted_items place_items 0)) (valued-fields (counted_items place_items 0) (counted-fields place_items 0 places_have)) (of_delta a))
 
 -- what stands in front is the frame
 pub front_of : (bytes : List ℕ) (frame : Frame) (to : ℕ) → Stands frame_part frame bytes 0 to → IsAtFront bytes frame to

@@ -13,8 +13,8 @@ use Rattle.wire_frame.specs.Parts.{Part, chain, clock_part, byte_part, value_par
 use Rattle.wire_frame.specs.Runs.{Items, run_part, key_items, clock_items, place_items}
 
 -- items behind their number, which is at least so much and at most 64
-abbrev pub counted : {X : Type 0} → Items X → ℕ → Part (ℕ × List X)
-counted items least = chain (byte_part Count least 64) (λ count. run_part items 0 count)
+abbrev pub counted_items : {X : Type 0} → Items X → ℕ → Part (ℕ × List X)
+counted_items items least = chain (byte_part Count least 64) (λ count. run_part items 0 count)
 
 -- an epoch, and something behind it
 abbrev pub under : {X : Type 0} → Part X → Part (ℕ × X)
@@ -26,13 +26,13 @@ valued body = chain value_part (λ _. body)
 
 -- the bodies of the kinds that have more than an epoch
 abbrev pub announced_body : Part (ℕ × (ℕ × List ℕ))
-announced_body = under (counted key_items 1)
+announced_body = under (counted_items key_items 1)
 
 abbrev pub cargo_body : Part (ℕ × (Value × (ℕ × List ℕ)))
-cargo_body = under (valued (counted clock_items 1))
+cargo_body = under (valued (counted_items clock_items 1))
 
 abbrev pub delta_body : Part (ℕ × (Value × (ℕ × List PlaceClock)))
-delta_body = under (valued (counted place_items 0))
+delta_body = under (valued (counted_items place_items 0))
 
 -- what such a frame has, in the order of its body
 abbrev pub of_announced : Announced → ℕ × (ℕ × List ℕ)

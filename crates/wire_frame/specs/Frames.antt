@@ -13,24 +13,24 @@ use Rattle.wire_frame.specs.declared.place_clock.PlaceClock.{PlaceClock}
 -- ---- the bytes
 
 -- a number in 4 bytes
-abbrev pub word : ℕ → List ℕ
-word n = to_be_bytes w32 n
+abbrev pub u32_bytes : ℕ → List ℕ
+u32_bytes n = to_be_bytes w32 n
 
 -- a number in 2 bytes
-abbrev pub half : ℕ → List ℕ
-half n = to_be_bytes w16 n
+abbrev pub u16_bytes : ℕ → List ℕ
+u16_bytes n = to_be_bytes w16 n
 
 -- a place, and its clock
 abbrev pub place_clock : PlaceClock → List ℕ
-place_clock named = named.place ∷ word named.clock
+place_clock named = named.place ∷ u32_bytes named.clock
 
 -- the kind of a frame, its epoch, and what the kind has behind it
 abbrev pub frame_bytes : Frame → List ℕ
-frame_bytes (Subscribe epoch) = 1 ∷ word epoch
-frame_bytes (Unsubscribe epoch) = 2 ∷ word epoch
-frame_bytes (Sources announced) = 3 ∷ word announced.epoch ++ length announced.keys ∷ flat_map half announced.keys
-frame_bytes (Carried cargo) = 4 ∷ word cargo.epoch ++ layout cargo.value ++ length cargo.clocks ∷ flat_map word cargo.clocks
-frame_bytes (Changed delta) = 5 ∷ word delta.epoch ++ layout delta.value ++ length delta.clocks ∷ flat_map place_clock delta.clocks
+frame_bytes (Subscribe epoch) = 1 ∷ u32_bytes epoch
+frame_bytes (Unsubscribe epoch) = 2 ∷ u32_bytes epoch
+frame_bytes (Sources announced) = 3 ∷ u32_bytes announced.epoch ++ length announced.keys ∷ flat_map u16_bytes announced.keys
+frame_bytes (Carried cargo) = 4 ∷ u32_bytes cargo.epoch ++ layout cargo.value ++ length cargo.clocks ∷ flat_map u32_bytes cargo.clocks
+frame_bytes (Changed delta) = 5 ∷ u32_bytes delta.epoch ++ layout delta.value ++ length delta.clocks ∷ flat_map place_clock delta.clocks
 
 -- ---- what is within its layout
 

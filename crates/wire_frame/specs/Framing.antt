@@ -7,7 +7,7 @@ use Rattle.wire_frame.specs.declared.reason.FrameReason.{FrameReason}
 use Rattle.wire_frame.specs.declared.reason.FrameReason.TheVariants.{Rest, Length}
 use Rattle.wire_frame.specs.Cut.{past}
 use Rattle.wire_frame.specs.Frames.{frame_bytes, FrameOf}
-use Rattle.wire_frame.specs.Stream.{framed, IsFront, IsTooLong}
+use Rattle.wire_frame.specs.Stream.{framed_item, IsFront, IsTooLong}
 use Rattle.wire_frame.specs.Taking.{IsAtFront, IsBadFrame}
 
 -- the bytes that were fed and are not answered, and the offset of the first of them
@@ -18,7 +18,7 @@ pub record Unread : Type 0 where
 -- the frame stands in front of what is unread, after its length, and both are gone afterwards
 pub record IsAnswered (old new : Unread) (frame : Frame) : Type 0 where
   pub frame_of : FrameOf frame (frame_bytes frame)
-  pub whole : old.held ≡ framed (frame_bytes frame) ++ new.held
+  pub whole : old.held ≡ framed_item (frame_bytes frame) ++ new.held
   pub further : new.offset ≡ past old.offset (length (frame_bytes frame) + 2)
 
 -- the item is longer than the frame in front of it

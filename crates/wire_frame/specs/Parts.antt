@@ -7,7 +7,7 @@ use Rattle.wire_frame.specs.declared.errors.FrameError.TheVariants as error
 use Rattle.svc_value.specs.declared.value.Value.{Value}
 use Rattle.svc_value.specs.Layout.{layout, IsWithin}
 use Rattle.wire_frame.specs.Fields.{key_fields, value_fields}
-use Rattle.wire_frame.specs.Frames.{word, half}
+use Rattle.wire_frame.specs.Frames.{u32_bytes, u16_bytes}
 
 -- things of one kind: which of them can stand, the bytes of each, and the field of each byte
 pub record Part (X : Type 0) : Type 1 where
@@ -48,7 +48,7 @@ value_part = record { Good = IsWithin; bytes = layout; fields = value_fields }
 
 -- a clock, which is at least 1, in 4 bytes
 abbrev pub clock_part : FrameReason → Part ℕ
-clock_part field = record { Good = λ n. (1 ≤ n) × (n < 2 ^ 32); bytes = word; fields = λ _. replicate 4 field }
+clock_part field = record { Good = λ n. (1 ≤ n) × (n < 2 ^ 32); bytes = u32_bytes; fields = λ _. replicate 4 field }
 
 -- a number from the least to the most, in one byte
 abbrev pub byte_part : FrameReason → ℕ → ℕ → Part ℕ
@@ -56,7 +56,7 @@ byte_part field least most = record { Good = λ n. (least ≤ n) × (n ≤ most)
 
 -- a key from the least to the most, in 2 bytes
 abbrev pub key_part : ℕ → ℕ → Part ℕ
-key_part least most = record { Good = λ n. (least ≤ n) × (n ≤ most); bytes = half; fields = λ _. key_fields }
+key_part least most = record { Good = λ n. (least ≤ n) × (n ≤ most); bytes = u16_bytes; fields = λ _. key_fields }
 
 -- ---- at a place of some bytes
 

@@ -3,7 +3,7 @@ use Rattle.std.specs.Prelude.{ℕ, zero, suc, ◌+◌, ◌<◌, ◌≤◌, ◌^�
 use Rattle.wire_frame.specs.declared.place_clock.PlaceClock.{PlaceClock}
 use Rattle.wire_frame.specs.declared.reason.FrameReason.{FrameReason}
 use Rattle.wire_frame.specs.Fields.{key_fields, clock_fields, place_fields}
-use Rattle.wire_frame.specs.Frames.{word, half, place_clock}
+use Rattle.wire_frame.specs.Frames.{u32_bytes, u16_bytes, place_clock}
 use Rattle.wire_frame.specs.Parts.{Part}
 
 -- a kind of items: which of them can stand where the least is known and how many follow, the least after each, its bytes, and their fields
@@ -33,7 +33,7 @@ abbrev pub key_items : Items ℕ
 key_items = record {
   Good = λ least left key. (least ≤ key) × (key + left < 2 ^ 16);
   least_after = λ key. suc key;
-  bytes = half;
+  bytes = u16_bytes;
   fields = λ _. key_fields;
 }
 
@@ -42,7 +42,7 @@ abbrev pub clock_items : Items ℕ
 clock_items = record {
   Good = λ least left clock. (1 ≤ clock) × (clock < 2 ^ 32);
   least_after = λ _. 0;
-  bytes = word;
+  bytes = u32_bytes;
   fields = λ _. clock_fields;
 }
 

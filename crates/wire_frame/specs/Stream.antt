@@ -2,8 +2,8 @@
 use Rattle.std.specs.Prelude.{◌≡◌, ℕ, zero, suc, ◌+◌, ◌*◌, ◌/◌, ◌%◌, ◌<◌, ◌≤◌, ◌⊎◌, Bool, ◌&&◌, cond, nat_le, List, [], ◌∷◌, ◌++◌, length, get_or, take, drop, All, flat_map}
 
 -- an item on the stream: its length, the greater byte first, then its bytes
-abbrev pub framed : List ℕ → List ℕ
-framed item = (length item / 256) ∷ (length item % 256) ∷ item
+abbrev pub framed_item : List ℕ → List ℕ
+framed_item item = (length item / 256) ∷ (length item % 256) ∷ item
 
 -- no item is longer
 abbrev pub IsItem : List ℕ → Type 0
@@ -26,12 +26,12 @@ IsPartial bytes = (length bytes < 2) ⊎ ((size_at bytes ≤ 585) × (length byt
 
 -- this item stands in front, and is whole
 pub record IsFront (bytes item : List ℕ) : Type 0 where
-  pub whole : bytes ≡ framed item ++ drop (length item + 2) bytes
+  pub whole : bytes ≡ framed_item item ++ drop (length item + 2) bytes
   pub fits : IsItem item
 
 -- the stream is these items and then this rest, with which no item begins
 pub record Splits (stream : List ℕ) (items : List (List ℕ)) (rest : List ℕ) : Type 0 where
-  pub whole : stream ≡ flat_map framed items ++ rest
+  pub whole : stream ≡ flat_map framed_item items ++ rest
   pub each : All IsItem items
   pub stuck : IsPartial rest ⊎ IsTooLong rest
 

@@ -7,12 +7,12 @@ ghost use Rattle.wire_frame.specs.Parts.{Stands, Fails, value_part};
 
 use crate::lists::{read_clocks, read_keys, read_places};
 use crate::numbers::read_clock;
-use crate::{AnnouncedIn, Cargo, DeltaIn, FrameError, FrameReason};
+use crate::{AnnouncedRef, Cargo, DeltaRef, FrameError, FrameReason};
 use std::alloc::Global;
 use svc_value::{Value, ValueError, ValueReason, take_value};
 
 /// An epoch with the keys under it, which are lent, and where they end; `Bad` where there are none. No memory is taken.
-pub(crate) fn read_announced(bytes: &[u8]) -> Result<(AnnouncedIn<'_>, usize), FrameError>
+pub(crate) fn read_announced(bytes: &[u8]) -> Result<(AnnouncedRef<'_>, usize), FrameError>
     requires { 1 ≤ length bytes.now }
     ensures announced { IfOk result (λ read. Stands announced_body (of_announced (announced_in read.0)) bytes.now 1 read.1) }
     ensures bad { IfErr result (λ e. Fails announced_body bytes.now 1 e) }
@@ -20,7 +20,7 @@ pub(crate) fn read_announced(bytes: &[u8]) -> Result<(AnnouncedIn<'_>, usize), F
 {
     let epoch = read_clock(bytes, 1, FrameReason::Epoch)?;
     let (keys, end) = read_keys(bytes, 5)?;
-    Ok((AnnouncedIn { epoch, keys }, end))
+    Ok((AnnouncedRef { epoch, keys }, end))
 }
 
 /// An epoch, a value and clocks, and where they end; `Bad` where there are none.
@@ -43,7 +43,7 @@ pub(crate) fn read_cargo(alloc: Global, bytes: &[u8]) -> Result<(Cargo, usize), 
 }
 
 /// An epoch, a value and places with their clocks, which are lent, and where they end; `Bad` where there are none.
-pub(crate) fn read_delta(alloc: Global, bytes: &[u8]) -> Result<(DeltaIn<'_>, usize), FrameError>
+pub(crate) fn read_delta(alloc: Global, bytes: &[u8]) -> Result<(DeltaRef<'_>, usize), FrameError>
     requires { 1 ≤ length bytes.now }
     ensures delta { IfOk result (λ read. Stands delta_body (of_delta (delta_in read.0)) bytes.now 1 read.1) }
     ensures bad { IfErr result (λ e. Fails delta_body bytes.now 1 e) }
@@ -52,7 +52,7 @@ pub(crate) fn read_delta(alloc: Global, bytes: &[u8]) -> Result<(DeltaIn<'_>, us
     let (value, at) = read_value(alloc, bytes, 5)?;
     let (clocks, end) = read_places(bytes, at)?;
     Ok((
-        DeltaIn {
+        DeltaRef {
             epoch,
             value,
             clocks,

@@ -33,7 +33,7 @@ impl Model for Cutter {
 
 impl Cutter {
     ghost use Rattle.std.specs.Prelude.{◌≡◌, ◌+◌, ◌-◌, ◌≤◌, [], ◌++◌, drop, length, OnOk, OnErr, IfOk, IfSome, IfErr, Ok, Err, None, ℕ};
-    ghost use Rattle.wire_frame.specs.Stream.{framed, IsItem, IsFront, IsTooLong, IsPartial};
+    ghost use Rattle.wire_frame.specs.Stream.{framed_item, IsItem, IsFront, IsTooLong, IsPartial};
     ghost use Rattle.wire_frame.specs.Cut.{past};
 
     /// It holds nothing, and takes its memory from `alloc`.
@@ -88,7 +88,7 @@ impl Cutter {
     /// greatest u64 where the offset is above that; every later call answers the same. `OutOfMemory` leaves the cutter as
     /// it was.
     pub fn next(&mut self) -> Result<Option<Bytes>, CutError>
-        ensures item { IfOk result (λ o. IfSome o (λ item. self.old.held ≡ framed item ++ self.new.held)) }
+        ensures item { IfOk result (λ o. IfSome o (λ item. self.old.held ≡ framed_item item ++ self.new.held)) }
         ensures size { IfOk result (λ o. IfSome o (λ item. IsItem item)) }
         ensures offset { IfOk result (λ o. IfSome o (λ item. self.new.offset ≡ past self.old.offset (length item + 2))) }
         ensures room { self.old.spare ≤ self.new.spare }

@@ -8,7 +8,7 @@ use svc_value::OutOfMemory;
 pub enum CutError {
     /// The length at the offset `at` of the stream is above the longest frame's.
     Length { at: u64 },
-    /// Want of memory.
+    /// Out of memory.
     OutOfMemory,
 }
 
@@ -28,7 +28,7 @@ impl From<OutOfMemory> for CutError {
 pub enum FrameError {
     /// No front of the bytes is a frame: the first `place` of them begin one and no more do, for this reason.
     Bad { place: usize, reason: FrameReason },
-    /// Want of memory.
+    /// Out of memory.
     OutOfMemory,
 }
 
@@ -63,7 +63,7 @@ pub enum StreamError {
         place: usize,
         reason: FrameReason,
     },
-    /// Want of memory.
+    /// Out of memory.
     OutOfMemory,
 }
 

@@ -3,7 +3,7 @@ ghost use Rattle.std.specs.Prelude.{◌≡◌, IfOk, IfSome, IfErr, Ok, None};
 ghost use Rattle.wire_frame.specs.Stream.{IsFront, IsPartial, IsTooLong};
 
 /// The most bytes that an item has.
-pub(crate) const LONGEST_ITEM: usize = 585;
+pub(crate) const MAX_FRAME_LEN: usize = 585;
 
 /// The length in front is above that of the longest item.
 #[derive(Clone, Copy)]
@@ -19,7 +19,7 @@ pub(crate) fn front_item(bytes: &[u8]) -> Result<Option<&[u8]>, TooLong>
         return Ok(None);
     };
     let size = usize::from(*high) * 256 + usize::from(*low);
-    if LONGEST_ITEM < size {
+    if MAX_FRAME_LEN < size {
         return Err(TooLong);
     }
     if rest.len() < size {

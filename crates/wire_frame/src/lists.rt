@@ -1,25 +1,25 @@
 // Lists of keys, of clocks and of places, read at a place of some bytes.
 ghost use Rattle.std.specs.Prelude.{◌≡◌, ◌≢◌, ◌+◌, ◌*◌, ◌<◌, ◌≤◌, ◌^◌, length, IfOk, IfErr};
-ghost use Rattle.wire_frame.specs.Bodies.{counted};
+ghost use Rattle.wire_frame.specs.Bodies.{counted_items};
 ghost use Rattle.wire_frame.specs.Parts.{Stands, Fails};
 ghost use Rattle.wire_frame.specs.Runs.{item_part, run_part, key_items, clock_items, place_items};
 
 use crate::numbers::{read_byte, read_clock, read_key};
-use crate::{FrameError, FrameReason, KeysIn, PlaceClock, PlacesIn};
+use crate::{FrameError, FrameReason, KeysRef, PlaceClock, PlacesRef};
 use std::alloc::Global;
 use svc_value::Clocks;
 
 /// The most keys, clocks or places of a frame.
-const MOST: u8 = 64;
+const MAX_ITEMS: u8 = 64;
 
 /// The keys from `at` on behind their number, lent, and where they end; `Bad` where there are none. No memory is taken.
-pub(crate) fn read_keys(bytes: &[u8], at: usize) -> Result<(KeysIn<'_>, usize), FrameError>
+pub(crate) fn read_keys(bytes: &[u8], at: usize) -> Result<(KeysRef<'_>, usize), FrameError>
     requires { at ≤ length bytes.now }
-    ensures keys { IfOk result (λ read. Stands (counted key_items 1) (length read.0, read.0) bytes.now at read.1) }
-    ensures bad { IfErr result (λ e. Fails (counted key_items 1) bytes.now at e) }
+    ensures keys { IfOk result (λ read. Stands (counted_items key_items 1) (length read.0, read.0) bytes.now at read.1) }
+    ensures bad { IfErr result (λ e. Fails (counted_items key_items 1) bytes.now at e) }
     ensures memory { IfErr result (λ e. e ≢ FrameError.OutOfMemory) }
 {
-    let count = read_byte(bytes, at, FrameReason::Count, 1, MOST)?;
+    let count = read_byte(bytes, at, FrameReason::Count, 1, MAX_ITEMS)?;
     let keys = keys_of(bytes, at + 1, count)?;
     Ok((keys, at + 1 + 2 * usize::from(count)))
 }
@@ -31,28 +31,28 @@ pub(crate) fn read_clocks(
     at: usize,
 ) -> Result<(Clocks, usize), FrameError>
     requires { at ≤ length bytes.now }
-    ensures clocks { IfOk result (λ read. Stands (counted clock_items 1) (length read.0, read.0) bytes.now at read.1) }
-    ensures bad { IfErr result (λ e. Fails (counted clock_items 1) bytes.now at e) }
+    ensures clocks { IfOk result (λ read. Stands (counted_items clock_items 1) (length read.0, read.0) bytes.now at read.1) }
+    ensures bad { IfErr result (λ e. Fails (counted_items clock_items 1) bytes.now at e) }
 {
-    let count = read_byte(bytes, at, FrameReason::Count, 1, MOST)?;
+    let count = read_byte(bytes, at, FrameReason::Count, 1, MAX_ITEMS)?;
     let clocks = clocks_of(alloc, bytes, at + 1, count)?;
     Ok((clocks, at + 1 + 4 * usize::from(count)))
 }
 
 /// The places with their clocks from `at` on behind their number, lent, and where they end; `Bad` where there are none. No
 /// memory is taken.
-pub(crate) fn read_places(bytes: &[u8], at: usize) -> Result<(PlacesIn<'_>, usize), FrameError>
+pub(crate) fn read_places(bytes: &[u8], at: usize) -> Result<(PlacesRef<'_>, usize), FrameError>
     requires { at ≤ length bytes.now }
-    ensures places { IfOk result (λ read. Stands (counted place_items 0) (length read.0, read.0) bytes.now at read.1) }
-    ensures bad { IfErr result (λ e. Fails (counted place_items 0) bytes.now at e) }
+    ensures places { IfOk result (λ read. Stands (counted_items place_items 0) (length read.0, read.0) bytes.now at read.1) }
+    ensures bad { IfErr result (λ e. Fails (counted_items place_items 0) bytes.now at e) }
 {
-    let count = read_byte(bytes, at, FrameReason::Count, 0, MOST)?;
+    let count = read_byte(bytes, at, FrameReason::Count, 0, MAX_ITEMS)?;
     let clocks = places_of(bytes, at + 1, count)?;
     Ok((clocks, at + 1 + 5 * usize::from(count)))
 }
 
 // The `count` keys from `at` on, strictly rising, lent.
-fn keys_of(bytes: &[u8], at: usize, count: u8) -> Result<KeysIn<'_>, FrameError>
+fn keys_of(bytes: &[u8], at: usize, count: u8) -> Result<KeysRef<'_>, FrameError>
     requires there { at ≤ length bytes.now }
     requires most { count ≤ 64 }
     ensures keys { IfOk result (λ keys. Stands (run_part key_items 0 count) keys bytes.now at (at + 2 * count)) }
@@ -67,7 +67,7 @@ fn keys_of(bytes: &[u8], at: usize, count: u8) -> Result<KeysIn<'_>, FrameError>
         least = u32::from(key) + 1;
         to += 2;
     }
-    Ok(KeysIn::new(&bytes[at..to]))
+    Ok(KeysRef::new(&bytes[at..to]))
 }
 
 // The `count` clocks from `at` on.
@@ -88,7 +88,7 @@ fn clocks_of(alloc: Global, bytes: &[u8], at: usize, count: u8) -> Result<Clocks
 }
 
 // The `count` places with their clocks from `at` on, strictly rising, lent.
-fn places_of(bytes: &[u8], at: usize, count: u8) -> Result<PlacesIn<'_>, FrameError>
+fn places_of(bytes: &[u8], at: usize, count: u8) -> Result<PlacesRef<'_>, FrameError>
     requires there { at ≤ length bytes.now }
     requires most { count ≤ 64 }
     ensures places { IfOk result (λ clocks. Stands (run_part place_items 0 count) clocks bytes.now at (at + 5 * count)) }
@@ -102,7 +102,7 @@ fn places_of(bytes: &[u8], at: usize, count: u8) -> Result<PlacesIn<'_>, FrameEr
         least = named.place + 1;
         to += 5;
     }
-    Ok(PlacesIn::new(&bytes[at..to]))
+    Ok(PlacesRef::new(&bytes[at..to]))
 }
 
 // The place at `at`, from `least` on and with room for `left` places above it, and its clock.

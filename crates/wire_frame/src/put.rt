@@ -1,6 +1,6 @@
 // Numbers put behind the bytes of a list.
 ghost use Rattle.std.specs.Prelude.{◌≡◌, ◌+◌, ◌*◌, ◌<◌, ◌≤◌, ◌^◌, ◌∷◌, ◌++◌, length, flat_map, vec_len, vec_capacity, OnOk, OnErr, All};
-ghost use Rattle.wire_frame.specs.Frames.{word, half, place_clock};
+ghost use Rattle.wire_frame.specs.Frames.{u32_bytes, u16_bytes, place_clock};
 
 use crate::PlaceClock;
 use svc_value::{Clock, OutOfMemory, ServiceId};
@@ -8,7 +8,7 @@ use svc_value::{Clock, OutOfMemory, ServiceId};
 /// Appends `n` in 4 bytes, for which there is room.
 pub(crate) fn put_word(n: u32, out: &mut Vec<u8>)
     requires { vec_len out.old + 4 ≤ vec_capacity out.old }
-    ensures items { out.new.items ≡ out.old.items ++ word n }
+    ensures items { out.new.items ≡ out.old.items ++ u32_bytes n }
     ensures fits { n < 2 ^ 32 }
     ensures len { vec_len out.new ≡ vec_len out.old + 4 }
     ensures capacity { vec_capacity out.old ≤ vec_capacity out.new }
@@ -21,7 +21,7 @@ pub(crate) fn put_word(n: u32, out: &mut Vec<u8>)
 /// Appends `n` in 2 bytes, for which there is room.
 pub(crate) fn put_half(n: u16, out: &mut Vec<u8>)
     requires { vec_len out.old + 2 ≤ vec_capacity out.old }
-    ensures items { out.new.items ≡ out.old.items ++ half n }
+    ensures items { out.new.items ≡ out.old.items ++ u16_bytes n }
     ensures fits { n < 2 ^ 16 }
     ensures len { vec_len out.new ≡ vec_len out.old + 2 }
     ensures capacity { vec_capacity out.old ≤ vec_capacity out.new }
@@ -46,7 +46,7 @@ fn put_place_clock(named: PlaceClock, out: &mut Vec<u8>)
 /// Appends keys behind their number. `OutOfMemory` leaves the list as it was.
 pub(crate) fn put_keys(keys: &[ServiceId], out: &mut Vec<u8>) -> Result<(), OutOfMemory>
     requires { length keys.now ≤ 64 }
-    ensures ok { OnOk result (out.new.items ≡ out.old.items ++ length keys.now ∷ flat_map half keys.now) }
+    ensures ok { OnOk result (out.new.items ≡ out.old.items ++ length keys.now ∷ flat_map u16_bytes keys.now) }
     ensures fits { OnOk result (All (λ key. key < 2 ^ 16) keys.now) }
     ensures err { OnErr result (out.new.items ≡ out.old.items) }
 {
@@ -61,7 +61,7 @@ pub(crate) fn put_keys(keys: &[ServiceId], out: &mut Vec<u8>) -> Result<(), OutO
 /// Appends clocks behind their number. `OutOfMemory` leaves the list as it was.
 pub(crate) fn put_clocks(clocks: &[Clock], out: &mut Vec<u8>) -> Result<(), OutOfMemory>
     requires { length clocks.now ≤ 64 }
-    ensures ok { OnOk result (out.new.items ≡ out.old.items ++ length clocks.now ∷ flat_map word clocks.now) }
+    ensures ok { OnOk result (out.new.items ≡ out.old.items ++ length clocks.now ∷ flat_map u32_bytes clocks.now) }
     ensures fits { OnOk result (All (λ clock. clock < 2 ^ 32) clocks.now) }
     ensures err { OnErr result (out.new.items ≡ out.old.items) }
 {

@@ -1,6 +1,6 @@
 // Laws of streams.
 ghost use Rattle.std.specs.Prelude.{◌≡◌, ◌+◌, [], ◌∷◌, ◌++◌, length, ℕ, List, All};
-ghost use Rattle.wire_frame.specs.Stream.{framed, Splits, items_of, IsByte, IsItem, IsPartial, IsTooLong};
+ghost use Rattle.wire_frame.specs.Stream.{framed_item, Splits, items_of, IsByte, IsItem, IsPartial, IsTooLong};
 ghost use Rattle.wire_frame.specs.Cut.{Cut, IsCutting, past};
 
 /// A stream has one list of items, and one rest.
@@ -24,7 +24,7 @@ pub fn stream_comes_in_pieces()
     ensures fed { (stream piece : List ℕ) (items : List (List ℕ)) (old new : Cut) → IsCutting stream items old →
         new.held ≡ old.held ++ piece → new.offset ≡ old.offset → IsCutting (stream ++ piece) items new }
     ensures answered { (stream item : List ℕ) (items : List (List ℕ)) (old new : Cut) → IsCutting stream items old →
-        old.held ≡ framed item ++ new.held → IsItem item → new.offset ≡ past old.offset (length item + 2) →
+        old.held ≡ framed_item item ++ new.held → IsItem item → new.offset ≡ past old.offset (length item + 2) →
         IsCutting stream (items ++ item ∷ []) new }
 
     // When it answers None or a length, the items are all of the stream's.

@@ -1,7 +1,7 @@
 // The bytes of a frame, behind those of a list.
 ghost use Rattle.std.specs.Prelude.{◌≡◌, ◌+◌, ◌<◌, ◌≤◌, ◌^◌, [], ◌∷◌, ◌++◌, length, take, flat_map, All, OnOk, OnErr};
 ghost use Rattle.wire_frame.specs.declared.frame.Frame.TheVariants.{Sources, Carried, Changed};
-ghost use Rattle.wire_frame.specs.Frames.{word, half, place_clock, frame_bytes, IsAnnounced, IsCargo, IsDelta, IsWithinLayout, Fits};
+ghost use Rattle.wire_frame.specs.Frames.{u32_bytes, u16_bytes, place_clock, frame_bytes, IsAnnounced, IsCargo, IsDelta, IsWithinLayout, Fits};
 
 use crate::put::{put_clocks, put_keys, put_place_clocks, put_word};
 use crate::{Cargo, Frame, PlaceClock};
@@ -125,7 +125,7 @@ fn put_delta(
 
 // Appends the kind and the epoch of a frame. `OutOfMemory` leaves the list as it was.
 fn put_head(kind: u8, epoch: Clock, out: &mut Vec<u8>) -> Result<(), OutOfMemory>
-    ensures ok { OnOk result (out.new.items ≡ out.old.items ++ kind ∷ word epoch) }
+    ensures ok { OnOk result (out.new.items ≡ out.old.items ++ kind ∷ u32_bytes epoch) }
     ensures fits { OnOk result (epoch < 2 ^ 32) }
     ensures err { OnErr result (out.new.items ≡ out.old.items) }
 {

@@ -1,4 +1,4 @@
-// Changes that are refused, with the least code.
+// Changes that are refused, with the lowest-numbered code.
 use crate::documents::others;
 use std::test::Fail;
 use svc_text::Mode;

@@ -1,4 +1,4 @@
-// Declarations that are refused, with the least code.
+// Declarations that are refused, with the lowest-numbered code.
 use crate::documents::others;
 use std::test::Fail;
 use svc_text::Mode;

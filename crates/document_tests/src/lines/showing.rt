@@ -2,7 +2,7 @@
 use std::alloc::{AllocError, Global};
 use std::str;
 use svc_expr::{names_of, print_expr};
-use svc_text::{Body, NamedFormula, Statement, Stop, read_line};
+use svc_text::{Body, LineError, NamedFormula, Statement, read_line};
 use svc_value::{Value, print_value};
 
 // The text of these bytes.
@@ -96,7 +96,7 @@ pub(crate) fn shown(alloc: Global, line: &[u8]) -> Result<String, AllocError> {
     let mut tokens = Vec::new(alloc);
     match read_line(alloc, line, &mut tokens) {
         Ok(statement) => statement_text(alloc, &statement),
-        Err(Stop::Refused(code)) => format!(in alloc; "{code:?}"),
-        Err(Stop::OutOfMemory) => String::from_str(alloc, "memory"),
+        Err(LineError::Refused(code)) => format!(in alloc; "{code:?}"),
+        Err(LineError::OutOfMemory) => String::from_str(alloc, "memory"),
     }
 }

@@ -1,10 +1,10 @@
 // What a network asks of a node, and hands to it.
 ghost use Rattle.std.specs.Prelude.{◌≡◌, ◌+◌, ◌<◌, ◌≤◌, ◌↔◌, ◌≢◌, [], ◌∷◌, length, option_to_list, IfSome, IsNone, IsTrue};
 ghost use Rattle.propagation.specs.Logs.{stamps_of};
-ghost use Rattle.propagation.specs.Words.{Has};
+ghost use Rattle.propagation.specs.Lists.{Has};
 ghost use Rattle.service_machine.specs.Draining.{is_work};
 ghost use Rattle.service_machine.specs.Openings.{opened_with};
-ghost use Rattle.service_machine.specs.Steps.{chosen};
+ghost use Rattle.service_machine.specs.Steps.{choice_of};
 ghost use Rattle.svc_graph.specs.Book.{IsDefinitionOf};
 ghost use Rattle.svc_graph.specs.declared.definition.Definition.{Definition as TheDefinition};
 ghost use Rattle.node_core.specs.Coming.{coming};
@@ -49,7 +49,7 @@ impl Node {
 
     /// Whether a turn would take a value or compute. No memory is taken.
     pub fn has_turn<L: Ledger>(&self, looks: &mut Steps<L>) -> bool
-        ensures { result ≡ is_work (chosen self.now.state) }
+        ensures { result ≡ is_work (choice_of self.now.state) }
     {
         let inputs = inputs_of(&self.edges, self.slots.as_slice());
         match self.matcher.choice(inputs, &self.floor, self.due, looks) {
@@ -61,7 +61,7 @@ impl Node {
     /// The oldest frame that is not yet handed over, with its receiver, which is handed over by this; None exactly where
     /// there is none. No memory is taken.
     pub fn pop_out(&mut self) -> Option<(ServiceId, Bytes)>
-        ensures some { IfSome result (λ post. self.old.outbox ≡ post ∷ self.new.outbox) }
+        ensures some { IfSome result (λ outgoing_frame. self.old.outbox ≡ outgoing_frame ∷ self.new.outbox) }
         ensures none { IsNone result → self.old.outbox ≡ [] }
         ensures kept { IsNone result → self.new ≡ self.old }
         ensures rest { self.new ≡ record self.old { outbox = self.new.outbox; handed = self.old.handed + length (option_to_list result) } }
@@ -75,9 +75,9 @@ impl Node {
         requires log { self.old.entries ≡ [] }
         requires few { length roster ≤ 64 }
         requires known { self.old.state.id < length roster }
-        requires accepted { (d : TheDefinition) → Has (coming self.old.state.by changes.items) d → IsDefinitionOf roster self.old.state.id d }
+        requires accepted { (d : TheDefinition) → Has (coming self.old.state.definition changes.items) d → IsDefinitionOf roster self.old.state.id d }
         requires clock { self.old.state.own + length changes.items ≤ 1024000 }
-        ensures { self.new ≡ record self.old { state = opened_with (coming self.old.state.by changes.items) self.old.state; roster = roster; changes = changes.items } }
+        ensures { self.new ≡ record self.old { state = opened_with (coming self.old.state.definition changes.items) self.old.state; roster = roster; changes = changes.items } }
     {
         begin_all(&mut self.slots);
         self.roster = roster;

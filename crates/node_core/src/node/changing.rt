@@ -1,6 +1,6 @@
 // Changes of a service.
 ghost use Rattle.std.specs.Prelude.{◌≡◌, ◌≢◌, ◌↔◌, ◌+◌, ◌-◌, ◌^◌, ◌<◌, [], IfOk, IsTrue, OnOk, OnErr};
-ghost use Rattle.service_machine.specs.Steps.{done as done_in, done_log};
+ghost use Rattle.service_machine.specs.Steps.{after_changing as done_in, done_log};
 ghost use Rattle.svc_graph.specs.History.{dependencies};
 
 use super::Node;
@@ -39,15 +39,22 @@ impl Node {
         let Rewired {
             definition,
             edges,
-            mail,
+            outgoing,
             room,
-        } = prepare_change(self.alloc, &self.by, change, &self.edges, slots, clock)?;
-        self.journal.reserve(mail.len())?;
-        let _ = self.journal.record(Entry::Did(clock.0), mail);
+        } = prepare_change(
+            self.alloc,
+            &self.definition,
+            change,
+            &self.edges,
+            slots,
+            clock,
+        )?;
+        self.journal.reserve(outgoing.len())?;
+        let _ = self.journal.record(Entry::Did(clock.0), outgoing);
         let old = mem::replace(&mut self.slots, Vec::new(self.alloc));
         self.slots = rewire_slots(self.alloc, old, room, &edges, clock);
         let _ = mem::replace(&mut self.edges, edges);
-        let _ = mem::replace(&mut self.by, Some(definition));
+        let _ = mem::replace(&mut self.definition, Some(definition));
         let inputs = inputs_of(&self.edges, self.slots.as_slice());
         self.matcher = Matcher::of(inputs, &self.floor);
         self.own = clock;

@@ -1,15 +1,15 @@
 // Frames that a service takes.
 ghost use Rattle.std.specs.Prelude.{◌≡◌, IfErr, OnOk, None};
 ghost use Rattle.propagation.specs.Logs.Frame.{Subscribe as TheSubscribe, Unsubscribe as TheUnsubscribe};
-ghost use Rattle.service_machine.specs.Steps.{took, took_log};
+ghost use Rattle.service_machine.specs.Steps.{after_taking, took_log};
 ghost use Rattle.wire_frame.specs.declared.frame.Frame.TheVariants.{Subscribe as IsSubscribe, Unsubscribe as IsUnsubscribe};
 ghost use Rattle.wire_frame.specs.Frames.{FrameOf};
 
 use super::Node;
-use crate::heard::Heard;
-use crate::hearing::hear;
-use crate::mail::Mail;
+use crate::outgoing::Outgoing;
 use crate::ranks::is_below;
+use crate::received::Received;
+use crate::receiving::receive;
 use crate::refusing::of_readers;
 use crate::welcome::staged_welcome;
 use crate::{Entry, TakeRefusal};
@@ -28,12 +28,12 @@ impl Node {
     ) -> Result<(), (TakeRefusal, Bytes)>
         requires frame { FrameOf (IsSubscribe epoch) bytes }
         ensures tested { OnOk result (failed_test self.old sender (TheSubscribe epoch) ≡ None) }
-        ensures state { OnOk result (self.new.state ≡ took sender (TheSubscribe epoch) self.old.state) }
+        ensures state { OnOk result (self.new.state ≡ after_taking sender (TheSubscribe epoch) self.old.state) }
         ensures log { OnOk result (Grows self.old self.new (took_log sender (TheSubscribe epoch) self.old.state)) }
         ensures err { IfErr result (λ refused. (self.new ≡ self.old) × (refused.1 ≡ bytes)) }
         ensures refused { IfErr result (λ refused. TellsOf (failed_test self.old sender (TheSubscribe epoch)) refused.0) }
     {
-        let Ok(mail) = staged_welcome(
+        let Ok(outgoing) = staged_welcome(
             self.alloc,
             &mut self.journal,
             sender,
@@ -47,8 +47,8 @@ impl Node {
         if let Err(error) = self.readers.subscribe(sender, above, epoch) {
             return Err((of_readers(error), bytes));
         }
-        let mail = self.journal.record(Entry::Took(sender, bytes), mail);
-        self.scratch.keep_mail(mail);
+        let outgoing = self.journal.record(Entry::Took(sender, bytes), outgoing);
+        self.scratch.keep_outgoing(outgoing);
         Ok(())
     }
 
@@ -61,7 +61,7 @@ impl Node {
     ) -> Result<(), (TakeRefusal, Bytes)>
         requires frame { FrameOf (IsUnsubscribe epoch) bytes }
         ensures tested { OnOk result (failed_test self.old sender (TheUnsubscribe epoch) ≡ None) }
-        ensures state { OnOk result (self.new.state ≡ took sender (TheUnsubscribe epoch) self.old.state) }
+        ensures state { OnOk result (self.new.state ≡ after_taking sender (TheUnsubscribe epoch) self.old.state) }
         ensures log { OnOk result (Grows self.old self.new (took_log sender (TheUnsubscribe epoch) self.old.state)) }
         ensures err { IfErr result (λ refused. (self.new ≡ self.old) × (refused.1 ≡ bytes)) }
         ensures refused { IfErr result (λ refused. TellsOf (failed_test self.old sender (TheUnsubscribe epoch)) refused.0) }
@@ -74,7 +74,7 @@ impl Node {
         }
         let _ = self
             .journal
-            .record(Entry::Took(sender, bytes), Mail::new(self.alloc));
+            .record(Entry::Took(sender, bytes), Outgoing::new(self.alloc));
         Ok(())
     }
 
@@ -93,16 +93,16 @@ impl Node {
         let (slots, journal) = (&mut self.slots, &mut self.journal);
         let (id, own) = (self.id, self.own);
         let lent = bytes.as_slice();
-        let heard = match hear(self.alloc, roster, id, own, slots, journal, sender, lent) {
-            Ok(heard) => heard,
+        let received = match receive(self.alloc, roster, id, own, slots, journal, sender, lent) {
+            Ok(received) => received,
             Err(refusal) => return Err((refusal, bytes)),
         };
-        match heard {
-            Heard::Subscribe(epoch) => self.take_subscribe(sender, epoch, bytes),
-            Heard::Unsubscribe(epoch) => self.take_unsubscribe(sender, epoch, bytes),
-            Heard::Put => {
-                let mail = Mail::new(self.alloc);
-                let _ = self.journal.record(Entry::Took(sender, bytes), mail);
+        match received {
+            Received::Subscribe(epoch) => self.take_subscribe(sender, epoch, bytes),
+            Received::Unsubscribe(epoch) => self.take_unsubscribe(sender, epoch, bytes),
+            Received::Put => {
+                let outgoing = Outgoing::new(self.alloc);
+                let _ = self.journal.record(Entry::Took(sender, bytes), outgoing);
                 Ok(())
             }
         }

@@ -1,7 +1,7 @@
 // Turns of a service.
 ghost use Rattle.std.specs.Prelude.{◌≡◌, ◌+◌, ◌<◌, ◌≤◌, true, IfOk, OnOk, OnErr, length};
 ghost use Rattle.service_machine.specs.States.{has_next, slot_at};
-ghost use Rattle.service_machine.specs.Steps.{computed, computed_log, moved, chosen, turned, turn_log};
+ghost use Rattle.service_machine.specs.Steps.{after_computing, computed_log, after_moving, choice_of, after_turning, turn_log};
 ghost use Rattle.stamp_match.specs.Named.{sender_at};
 ghost use Rattle.svc_graph.specs.History.{meaning_of};
 
@@ -21,22 +21,22 @@ impl Node {
 
     // Computes by the present definition, if there is one, and tells the readers.
     fn compute<L: Ledger>(&mut self, looks: &mut Steps<L>) -> Result<(), OutOfMemory>
-        ensures state { OnOk result (self.new.state ≡ computed meaning_of self.old.state self.old.state.by) }
-        ensures log { OnOk result (Grows self.old self.new (computed_log meaning_of self.old.state self.old.state.by)) }
+        ensures state { OnOk result (self.new.state ≡ after_computing meaning_of self.old.state self.old.state.definition) }
+        ensures log { OnOk result (Grows self.old self.new (computed_log meaning_of self.old.state self.old.state.definition)) }
         ensures err { OnErr result (self.new ≡ self.old) }
     {
-        let Some(by) = &self.by else {
+        let Some(definition) = &self.definition else {
             return Ok(());
         };
         let inputs = inputs_of(&self.edges, self.slots.as_slice());
         let scratch = &mut self.scratch;
-        let emission = emission_over(self.alloc, self.id, self.own, by, inputs, scratch)?;
+        let emission = emission_over(self.alloc, self.id, self.own, definition, inputs, scratch)?;
         let computation = computation_of(self.alloc, &emission, inputs)?;
         let readers = self.readers.as_slice();
-        let mail = tell_all(self.alloc, readers, &self.last, &emission, scratch)?;
-        self.journal.reserve(mail.len())?;
-        let mail = self.journal.record(Entry::Computed(computation), mail);
-        scratch.keep_mail(mail);
+        let outgoing = tell_all(self.alloc, readers, &self.last, &emission, scratch)?;
+        self.journal.reserve(outgoing.len())?;
+        let outgoing = self.journal.record(Entry::Computed(computation), outgoing);
+        scratch.keep_outgoing(outgoing);
         self.due = false;
         let inputs = inputs_of(&self.edges, self.slots.as_slice());
         let (matcher, floor) = (&mut self.matcher, &mut self.floor);
@@ -55,7 +55,7 @@ impl Node {
     )
         requires place { place < length self.old.state.edges }
         requires next { has_next (slot_at self.old.state.slots (sender_at self.old.state.slots place)) ≡ true }
-        ensures state { self.new ≡ record self.old { state = moved (sender_at self.old.state.slots place) self.old.state } }
+        ensures state { self.new ≡ record self.old { state = after_moving (sender_at self.old.state.slots place) self.old.state } }
         ensures moves { moves.new ≡ moves.old + 1 }
     {
         let _entries = self.journal.entries().len();
@@ -75,9 +75,9 @@ impl Node {
         moves: &mut Steps<M>,
         looks: &mut Steps<L>,
     ) -> Result<Turned, OutOfMemory>
-        ensures state { OnOk result (self.new.state ≡ turned meaning_of self.old.state) }
+        ensures state { OnOk result (self.new.state ≡ after_turning meaning_of self.old.state) }
         ensures log { OnOk result (Grows self.old self.new (turn_log meaning_of self.old.state)) }
-        ensures answer { IfOk result (IsAnswer (chosen self.old.state)) }
+        ensures answer { IfOk result (IsAnswer (choice_of self.old.state)) }
         ensures idle { IfOk result (λ answer. IsIdle answer → self.new ≡ self.old) }
         ensures moves { moves.new ≡ moves.old + moves_of result }
         ensures err { OnErr result (self.new ≡ self.old) }

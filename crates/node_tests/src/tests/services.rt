@@ -19,7 +19,7 @@ pub(crate) struct Service {
 }
 
 impl Model for Service {
-    ghost use Rattle.node_core.specs.View.{Service as TheService};
+    ghost use Rattle.node_core.specs.View.{NodeView as TheService};
 
     ghost Value = { TheService };
 

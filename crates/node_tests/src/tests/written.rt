@@ -1,6 +1,6 @@
 // Changes that are well written.
 ghost use Rattle.std.specs.Prelude.{◌≡◌, true, IfOk};
-ghost use Rattle.propagation.specs.Words.{Apart};
+ghost use Rattle.propagation.specs.Lists.{AreDistinct};
 ghost use Rattle.svc_graph.specs.Accepting.{IsWritten};
 ghost use Rattle.node_tests.specs.Written.{IsWell};
 
@@ -45,7 +45,7 @@ impl Written {
 
 // Whether these are at most two services, which differ.
 fn differ(ids: &[ServiceId]) -> bool
-    ensures { result ≡ true → Apart ids.now }
+    ensures { result ≡ true → AreDistinct ids.now }
 {
     match ids {
         [] => true,

@@ -1,6 +1,6 @@
 -- The part of a leg that each service gets, and the nodes that begin it.
 use Rattle.std.specs.Prelude.{◌≡◌, ℕ, ◌+◌, ◌<◌, ◌≤◌, List, [], ◌∷◌, ◌++◌, length, slice_index_or, slice_set}
-use Rattle.propagation.specs.Words.{Has}
+use Rattle.propagation.specs.Lists.{Has}
 use Rattle.service_machine.specs.Openings.{AtRest}
 use Rattle.svc_graph.specs.Book.{IsDefinitionOf}
 use Rattle.svc_graph.specs.declared.definition.Definition.{Definition}
@@ -9,10 +9,10 @@ use Rattle.svc_graph.specs.History.{Row}
 use Rattle.link_fifo.specs.Waiting.{Link}
 use Rattle.svc_plan.specs.declared.plan.PlanChange.{PlanChange}
 use Rattle.node_core.specs.Coming.{coming}
-use Rattle.node_core.specs.View.{Service}
+use Rattle.node_core.specs.View.{NodeView}
 use Rattle.settle_core.specs.declared.opening.LegPart.{LegPart}
-use Rattle.settle_core.specs.Net.{Net, service_at}
-use Rattle.settle_core.specs.Opening.{changes_of, opened}
+use Rattle.settle_core.specs.Net.{NetworkView, service_at}
+use Rattle.settle_core.specs.Opening.{changes_of, opened_node}
 use Rattle.settle_core.specs.Inside.Table.{waiting_in}
 
 -- the part of a service that is not there
@@ -32,26 +32,26 @@ pub record AddsChange (next : PlanChange) (old new : List LegPart) : Type 0 wher
   pub changes : part.changes ≡ (slice_index_or old next.id blank).changes ++ next.change ∷ []
 
 -- what a node rests on that ends its leg and begins the next one with this part
-pub record CanBegin (s : Service) (part : LegPart) : Type 0 where
+pub record CanBegin (s : NodeView) (part : LegPart) : Type 0 where
   pub rest : AtRest s.state
   pub handed : s.outbox ≡ []
   pub few : length part.roster ≤ 64
   pub known : s.state.id < length part.roster
-  pub accepted : (d : Definition) → Has (coming s.state.by part.changes) d → IsDefinitionOf part.roster s.state.id d
+  pub accepted : (d : Definition) → Has (coming s.state.definition part.changes) d → IsDefinitionOf part.roster s.state.id d
   pub clock : s.state.own + length part.changes ≤ 1024000
 
 -- each of these nodes can, with its part
-abbrev pub EachCanBegin : List Service → List LegPart → Type 0
+abbrev pub EachCanBegin : List NodeView → List LegPart → Type 0
 EachCanBegin services parts = (n : ℕ) → n < length services → CanBegin (service_at services n) (slice_index_or parts n blank)
 
 -- the first `k` nodes have begun, each with its part, and the others are as they were
-pub record HaveBegun (parts : List LegPart) (k : ℕ) (old new : List Service) : Type 0 where
+pub record HaveBegun (parts : List LegPart) (k : ℕ) (old new : List NodeView) : Type 0 where
   pub count : length new ≡ length old
-  pub done : (n : ℕ) → n < k → service_at new n ≡ opened (slice_index_or parts n blank).roster (slice_index_or parts n blank).changes (service_at old n)
+  pub done : (n : ℕ) → n < k → service_at new n ≡ opened_node (slice_index_or parts n blank).roster (slice_index_or parts n blank).changes (service_at old n)
   pub rest : (n : ℕ) → k ≤ n → service_at new n ≡ service_at old n
 
 -- there are so many nodes, and the new ones are unborn
-pub record MoreNodes (count : ℕ) (old new : List Service) : Type 0 where
+pub record MoreNodes (count : ℕ) (old new : List NodeView) : Type 0 where
   pub count_is : length new ≡ count
   pub same : (n : ℕ) → service_at new n ≡ service_at old n
 
@@ -61,5 +61,5 @@ pub record MoreLinks (more : ℕ) (old new : List Link) : Type 0 where
   pub same : (i : ℕ) → slice_index_or (waiting_in new) i [] ≡ slice_index_or (waiting_in old) i []
 
 -- the network of this book, these nodes and these links
-abbrev pub net_of : List Row → List Service → List Link → Net
+abbrev pub net_of : List Row → List NodeView → List Link → NetworkView
 net_of rows services links = record { rows = rows; services = services; links = waiting_in links }

@@ -12,7 +12,7 @@ use Rattle.svc_graph.specs.History.{dependencies, meaning_of}
 use Rattle.svc_value.specs.declared.value.Value.{Value}
 use Rattle.settle_core.specs.Events.{Happens}
 use Rattle.settle_core.specs.Legs.{InLeg}
-use Rattle.settle_core.specs.Net.{Net, system_of}
+use Rattle.settle_core.specs.Net.{NetworkView, system_of}
 use Rattle.settle_core.specs.Running.{Goes}
 
 -- whether the event did something: a change, a frame taken, or a turn that took a value or computed
@@ -27,13 +27,13 @@ did_something still = false
 did_something idle = false
 
 -- the event happened, and this says whether it did something
-pub record Steps (e : Event) (busy : Bool) (old new : Net) : Type 0 where
+pub record Steps (e : Event) (busy : Bool) (old new : NetworkView) : Type 0 where
   pub note : Note
   pub busy_is : busy ≡ did_something note
   pub happened : Happens e note old new
 
 -- the network is in the same leg, and what happened made of its system what `f` makes of it
-pub record Ends (f : System Value Definition → System Value Definition) (old new : Net) : Type 0 where
+pub record Ends (f : System Value Definition → System Value Definition) (old new : NetworkView) : Type 0 where
   pub goes : Goes old new
   pub ends : (g : Leg Value Definition) (low : ℕ → Stamps) (before : ℕ → List (TheEntry Value)) → InLeg old g low before → run dependencies meaning_of goes.events (system_of old.services before) ≡ f (system_of old.services before)
 

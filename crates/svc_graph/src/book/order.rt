@@ -13,7 +13,7 @@ use std::alloc::{AllocError, Global};
 use svc_value::{Ids, OutOfMemory, ServiceId};
 
 // Two lists of services, one after the other.
-fn joined(alloc: Global, front: &[ServiceId], back: &[ServiceId]) -> Result<Ids, OutOfMemory>
+fn concatenation(alloc: Global, front: &[ServiceId], back: &[ServiceId]) -> Result<Ids, OutOfMemory>
     ensures { IfOk result (λ ids. ids ≡ front.now ++ back.now) }
 {
     let mut ids = Vec::from_slice(alloc, front)?;
@@ -26,7 +26,11 @@ fn dependencies(alloc: Global, last: Option<DefinitionRef<'_>>) -> Result<Ids, O
     ensures { IfOk result (λ ids. ids ≡ last_dependencies (option_map definition_lent last.entry)) }
 {
     match last {
-        Some(DefinitionRef::Derived(formula)) => joined(alloc, formula.fixed, formula.members),
+        Some(DefinitionRef::Derived(formula)) => concatenation(
+            alloc,
+            formula.fixed,
+            formula.members,
+        ),
         _ => Ok(Ids::new(alloc)),
     }
 }

@@ -1,19 +1,19 @@
 // What a service rests on.
 ghost use Rattle.std.specs.Prelude.{◌≡◌, ℕ, ◌≤◌, ◌<◌, ◌||◌, ◌&&◌, ◌==◌, Bool, false, filter, length, slice_index_or, All, IfOk, OnOk};
 ghost use Rattle.std.specs.List.{range_with_len};
-ghost use Rattle.propagation.specs.Words.{Has, is_among};
+ghost use Rattle.propagation.specs.Lists.{Has, is_among};
 
-use super::{Book, MOST_SERVICES, place};
+use super::{Book, MAX_SERVICES, place};
 use std::alloc::{AllocError, Global};
 use svc_value::{Ids, OutOfMemory, ServiceId};
 
 // The mark of one service.
-fn one_mark(id: ServiceId) -> [bool; MOST_SERVICES]
+fn one_mark(id: ServiceId) -> [bool; MAX_SERVICES]
     requires { id < 64 }
     ensures len { length result ≡ 64 }
     ensures mark { (q : ℕ) → slice_index_or result q false ≡ (q == id) }
 {
-    let mut marks = [false; MOST_SERVICES];
+    let mut marks = [false; MAX_SERVICES];
     marks[place(id)] = true;
     marks
 }
@@ -29,7 +29,11 @@ fn mark_all(marks: &mut [bool], ids: &[ServiceId])
 }
 
 // The marked ones of the first services.
-fn marked(alloc: Global, marks: &[bool], count: usize) -> Result<Vec<ServiceId>, AllocError>
+fn marked_services(
+    alloc: Global,
+    marks: &[bool],
+    count: usize,
+) -> Result<Vec<ServiceId>, AllocError>
     requires few { count ≤ 64 }
     requires within { count ≤ length marks.now }
     ensures { IfOk result (λ ids. ids.items ≡ filter (λ p. slice_index_or marks.now p false) (range_with_len 0 count)) }
@@ -77,6 +81,6 @@ impl Book {
             let reader = order[order.len() - 1 - step];
             self.mark_below(reader, &mut marks)?;
         }
-        Ok(Ids::from_vec(marked(self.alloc, &marks, count)?))
+        Ok(Ids::from_vec(marked_services(self.alloc, &marks, count)?))
     }
 }

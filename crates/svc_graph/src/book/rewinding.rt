@@ -26,13 +26,13 @@ fn count(clock: Clock) -> usize
 
 impl Book {
     ghost use Rattle.svc_graph.specs.Book.{IsBook};
-    ghost use Rattle.svc_graph.specs.Rewound.{rewound};
+    ghost use Rattle.svc_graph.specs.Rewound.{rewound_rows};
 
     /// Goes back to an earlier state: of the first services as many stay as there are clocks, each with its first so many
     /// definitions. It takes no memory.
     pub fn rewind(&mut self, clocks: &[Clock])
-        requires { IsBook (rewound self.old clocks.now) }
-        ensures { self.new ≡ rewound self.old clocks.now }
+        requires { IsBook (rewound_rows self.old clocks.now) }
+        ensures { self.new ≡ rewound_rows self.old clocks.now }
     {
         self.names.truncate(clocks.len());
         self.kinds.truncate(clocks.len());

@@ -3,7 +3,7 @@ use Rattle.std.proofs.lemmas.List.{get_or_default}
 use Rattle.std.proofs.lemmas.Result.{IfOk-weaker}
 use Rattle.central_eval.proofs.Evaluating.{Progress, Progress-more, Progress-past, central-done, definition-lent, dependencies-declared, few-dependencies}
 use Rattle.central_eval.proofs.Marking.{AreWhole-reached, definition-reached}
-use Rattle.propagation.specs.History.{CentralAt, Reach, definition}
+use Rattle.propagation.specs.History.{CentralAt, Reach, definition_at}
 use Rattle.propagation.specs.Stamps.{clock_of}
 use Rattle.svc_graph.proofs.Ordered.{services_within}
 use Rattle.central_eval.specs.Values.{nothing, value_at, value_by}
@@ -49,8 +49,8 @@ loop-reader-preserved c =
     let k = c.loop-reader.reader-index in
     let values = c.loop-reader.values.items in
     let item : get_or ids k 0 ≡ n = get_or_default ids k 0 n c.loop-reader-test.true ∙ sym c.reader-item.is in
-    let lent : definition (theory rows) (get_or ids k 0) (S (get_or ids k 0)) ≡ option_map definition_lent c.at.result =
-    ap (λ m. definition (theory rows) m (S m)) item ∙ ap (definition (theory rows) n) (sym c.clock_in.ensures) ∙
+    let lent : definition_at (theory rows) (get_or ids k 0) (S (get_or ids k 0)) ≡ option_map definition_lent c.at.result =
+    ap (λ m. definition_at (theory rows) m (S m)) item ∙ ap (definition_at (theory rows) n) (sym c.clock_in.ensures) ∙
     definition-lent rows n c.clock_in.result c.history.result.now c.at.result c.history.ensures.history c.at.ensures in
     elim c.match-at.branch [
       | in-Some+in_ok-put_value w ↦

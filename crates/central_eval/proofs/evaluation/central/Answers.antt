@@ -1,7 +1,7 @@
 use Rattle.std.proofs.Common.{◌≡◌, ◌∙◌, ◌+◌, ◌<◌, All, Some, get_or, set, length, is_some, option_map, sym, ap, subst, arith}
 use Rattle.std.proofs.lemmas.List.{get_or_default}
 use Rattle.central_eval.proofs.Evaluating.{AreCentral-done, AreWhole-born, Progress, Progress-more, dependencies-declared, few-dependencies, is_some-option_map, present-born}
-use Rattle.propagation.specs.History.{definition, now}
+use Rattle.propagation.specs.History.{definition_at, now}
 use Rattle.svc_graph.proofs.Ordered.{services_within}
 use Rattle.svc_graph.proofs.Theory.{definition-now}
 use Rattle.central_eval.specs.Values.{value_by}
@@ -55,8 +55,8 @@ loop-id-preserved c =
     let k = c.loop-id.id-index in
     let d = definition_lent c.unwrap-definition.result in
     let item : get_or ids k 0 ≡ n = get_or_default ids k 0 n c.loop-id-test.true ∙ sym c.id-item.is in
-    let defined : definition (theory rows) (get_or ids k 0) (now (theory rows) (get_or ids k 0)) ≡ Some d =
-    ap (λ m. definition (theory rows) m (now (theory rows) m)) item ∙ definition-now rows n ∙ sym (c.present.ensures ∙ ap present c.history.ensures.history) ∙ ap (option_map definition_lent) c.unwrap-definition.ensures in
+    let defined : definition_at (theory rows) (get_or ids k 0) (now (theory rows) (get_or ids k 0)) ≡ Some d =
+    ap (λ m. definition_at (theory rows) m (now (theory rows) m)) item ∙ definition-now rows n ∙ sym (c.present.ensures ∙ ap present c.history.ensures.history) ∙ ap (option_map definition_lent) c.unwrap-definition.ensures in
     subst (Progress rows (now (theory rows)) ids (k + 1))
     (ap (λ m. set c.loop-id.values.items m (value_by d c.loop-id.values.items)) item ∙ sym c.in_ok-put_value.ensures)
     (Progress-more rows (now (theory rows)) ids k c.loop-id.values.items d c.len.ensures.book (AreWhole-born rows c.len.ensures.book c.requires) c.loop-id-test.true defined c.loop-id.invariant)

@@ -2,7 +2,7 @@ use Rattle.std.proofs.Common.{◌≡◌, ◌∙◌, ◌<◌, ◌||◌, length, g
 use Rattle.central_eval.proofs.Marking.{AreMarked, AreMarked-more, AreReached-marked, key-marked, marked-key}
 use Rattle.propagation.specs.History.{deps}
 use Rattle.propagation.specs.Stamps.{clock_of}
-use Rattle.propagation.specs.Words.{is_among}
+use Rattle.propagation.specs.Lists.{is_among}
 use Rattle.svc_graph.specs.History.{theory}
 use Rattle.central_eval.proofs.reaching.are_reached.Goals as goal
 

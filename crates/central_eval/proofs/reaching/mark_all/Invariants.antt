@@ -1,5 +1,5 @@
 use Rattle.std.proofs.Common.{◌≡◌, ℕ, ◌||◌, false, take, get_or}
-use Rattle.propagation.specs.Words.{is_among}
+use Rattle.propagation.specs.Lists.{is_among}
 use Rattle.central_eval.proofs.reaching.mark_all.Given as goal
 
 abbrev pub invariant-loop-id : goal.invariant-loop-id

@@ -1,7 +1,7 @@
 use Rattle.std.proofs.Common.{◌∙◌, ◌||◌, ◌<◌, Some, false, get_or, length, option_map, sym, ap, arith}
 use Rattle.std.proofs.Math.Bool.{or_assoc}
-use Rattle.propagation.specs.History.{names_of}
-use Rattle.propagation.specs.Words.{is_among}
+use Rattle.propagation.specs.History.{dependencies_of}
+use Rattle.propagation.specs.Lists.{is_among}
 use Rattle.svc_graph.proofs.Lists.{is_among_append}
 use Rattle.svc_graph.specs.declared.lent.DefinitionRef.TheVariants.{Derived}
 use Rattle.svc_graph.specs.History.{theory}
@@ -33,4 +33,4 @@ returns-in-Some-Derived c q =
     let defined = definition-lent rows c.args.reader c.args.clock c.history.result.now c.at.result c.history.ensures.history c.at.ensures ∙ ap (option_map definition_lent) (c.in-Some-Derived.is ∙ ap Some c.in-Some-Derived.field-0-is) in
     c.mark_all-in-Some-Derived.ensures q ∙ ap (λ b. b || is_among members q) (c.mark_all.ensures q) ∙
     or_assoc (get_or c.args.marks.now q false) (is_among fixed q) (is_among members q) ∙
-    ap (λ b. get_or c.args.marks.now q false || b) (sym (is_among_append fixed members q) ∙ ap (λ o. is_among (names_of (theory rows) o) q) (sym defined))
+    ap (λ b. get_or c.args.marks.now q false || b) (sym (is_among_append fixed members q) ∙ ap (λ o. is_among (dependencies_of (theory rows) o) q) (sym defined))

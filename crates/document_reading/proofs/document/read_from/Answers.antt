@@ -3,7 +3,7 @@ use Rattle.svc_plan.specs.declared.plan.Leg.{Leg}
 use Rattle.svc_plan.specs.declared.plan.Mode.{Mode}
 use Rattle.svc_plan.specs.Rows.{AreLegsAfter}
 use Rattle.document_reading.specs.Document.{IsRefusalAfter}
-use Rattle.document_reading.specs.Reader.{state}
+use Rattle.document_reading.specs.Parser.{state}
 use Rattle.document_reading.specs.Sound.{IsStart}
 use Rattle.document_reading.specs.State.{State, legs_in}
 use Rattle.document_reading.proofs.ReadingLemmas.{one_answer}
@@ -18,14 +18,14 @@ returns-in-Err-clause-not_accepted c = λ refusal is.
 
 pub returns-in_ok-into_legs-in-Ok-clause-legs : goal.returns-in_ok-into_legs-in-Ok-clause-legs
 returns-in_ok-into_legs-in-Ok-clause-legs c =
-    let taken = legs_taken c.new.result.mode (state c.new.result) (state c.in-Ok.reader) c.args.bytes.now (subst IsStart (sym c.new.ensures.start) c.requires)
-    (omega (arith, c.if-bytes-gt-LONGEST_DOCUMENT.false)) c.in-Ok.ensures.read in
+    let taken = legs_taken c.new.result.mode (state c.new.result) (state c.in-Ok.parser) c.args.bytes.now (subst IsStart (sym c.new.ensures.start) c.requires)
+    (omega (arith, c.if-bytes-gt-MAX_DOCUMENT_LEN.false)) c.in-Ok.ensures.read in
     subst (AreLegsAfter c.args.book) (sym c.in_ok-into_legs-in-Ok.ensures)
-    (subst (λ (s : State). AreLegsAfter s.rows (legs_in (state c.in-Ok.reader))) c.new.ensures.start taken.0)
+    (subst (λ (s : State). AreLegsAfter s.rows (legs_in (state c.in-Ok.parser))) c.new.ensures.start taken.0)
 
 pub returns-in_ok-into_legs-in-Ok-clause-few : goal.returns-in_ok-into_legs-in-Ok-clause-few
 returns-in_ok-into_legs-in-Ok-clause-few c =
-    let taken = legs_taken c.new.result.mode (state c.new.result) (state c.in-Ok.reader) c.args.bytes.now (subst IsStart (sym c.new.ensures.start) c.requires)
-    (omega (arith, c.if-bytes-gt-LONGEST_DOCUMENT.false)) c.in-Ok.ensures.read in
+    let taken = legs_taken c.new.result.mode (state c.new.result) (state c.in-Ok.parser) c.args.bytes.now (subst IsStart (sym c.new.ensures.start) c.requires)
+    (omega (arith, c.if-bytes-gt-MAX_DOCUMENT_LEN.false)) c.in-Ok.ensures.read in
     subst (λ (legs : List Leg). c.args.ended + length legs ≤ 1000) (sym c.in_ok-into_legs-in-Ok.ensures)
-    (subst (λ (s : State). s.before + length (legs_in (state c.in-Ok.reader)) ≤ 1000) c.new.ensures.start taken.1)
+    (subst (λ (s : State). s.before + length (legs_in (state c.in-Ok.parser)) ≤ 1000) c.new.ensures.start taken.1)

@@ -3,8 +3,8 @@ use Rattle.document_reading.specs.Grammar.{silent}
 use Rattle.document_reading.proofs.UnreadLemmas.{too_long, no_text, no_words}
 use Rattle.document_reading.proofs.line.read_line.Goals as goal
 
-pub returns-then-line-gt-LONGEST_LINE-clause-refused : goal.returns-then-line-gt-LONGEST_LINE-clause-refused
-returns-then-line-gt-LONGEST_LINE-clause-refused c = too_long c.args.line.now (omega arith)
+pub returns-then-line-gt-MAX_LINE_LEN-clause-refused : goal.returns-then-line-gt-MAX_LINE_LEN-clause-refused
+returns-then-line-gt-MAX_LINE_LEN-clause-refused c = too_long c.args.line.now (omega arith)
 
 pub returns-then-not-is_text-clause-refused : goal.returns-then-not-is_text-clause-refused
 returns-then-not-is_text-clause-refused c = no_text c.args.line.now (omega arith) (λ u. let h = c.if-not-is_text.ensures.1 u in search rules)

@@ -1,5 +1,5 @@
 use Rattle.std.proofs.Common.{◌≡◌, drop}
-use Rattle.propagation.specs.Words.{is_among}
+use Rattle.propagation.specs.Lists.{is_among}
 use Rattle.node_core.proofs.definitions.has.Given as goal
 
 abbrev pub invariant-loop-one : goal.invariant-loop-one

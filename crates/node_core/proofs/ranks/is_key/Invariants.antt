@@ -1,5 +1,5 @@
 use Rattle.std.proofs.Common.{◌≡◌}
-use Rattle.propagation.specs.Words.{is_among}
+use Rattle.propagation.specs.Lists.{is_among}
 use Rattle.node_core.proofs.ranks.is_key.Given as goal
 
 -- what is left to walk over

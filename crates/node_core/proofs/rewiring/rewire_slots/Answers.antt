@@ -1,7 +1,7 @@
 use Rattle.std.proofs.Common.{◌≡◌, ◌<◌, ◌∙◌, ◌++◌, List, ℕ, length, sym, ap, subst, arith, add-one, drop, slice_index_or, suc}
 use Rattle.service_machine.specs.States.{Slot}
 use Rattle.service_machine.specs.Steps.{cut_to, cut_others, targets}
-use Rattle.propagation.specs.Words.{Apart}
+use Rattle.propagation.specs.Lists.{AreDistinct}
 use Rattle.svc_value.specs.declared.value.Value.{Value}
 use Rattle.node_core.specs.View.{senders}
 use Rattle.node_core.proofs.CutLemmas.{edge_step, apart_left, apart_next, edges_done}
@@ -16,7 +16,7 @@ loop-i-preserved c =
           ∙ edge_step c.loop-i.new.items c.loop-i.old.items c.take_slot-slot.new.slots.items c.args.edges.now c.loop-i.i c.args.clock c.index-as_slice-i.result c.take_slot-slot.result lt is c.loop-i.invariant.senders c.loop-i.invariant.targets
           c.take_slot-slot.ensures.slot c.take_slot-slot.ensures.left
           ∙ c.loop-i.invariant.same;
-      senders = (let P : List (Slot Value) → Type 0 = λ xs. Apart (senders xs) in subst P (sym c.take_slot-slot.ensures.left) (apart_left c.loop-i.old.items c.index-as_slice-i.result.0 c.loop-i.invariant.senders));
+      senders = (let P : List (Slot Value) → Type 0 = λ xs. AreDistinct (senders xs) in subst P (sym c.take_slot-slot.ensures.left) (apart_left c.loop-i.old.items c.index-as_slice-i.result.0 c.loop-i.invariant.senders));
       targets = apart_next c.args.edges.now c.loop-i.i lt c.loop-i.invariant.targets;
       len = omega (arith, c.push_reserved.ensures.len, c.loop-i.invariant.len);
       room = omega (arith, c.loop-i.invariant.room, c.take_slot-slot.ensures.len, c.push_reserved.ensures.capacity);

@@ -7,7 +7,7 @@ loop-left-init c =
     let all : c.feed.new.self.held ≡ c.args.bytes.now = c.feed.ensures.held ∙ ap (λ held. held ++ c.args.bytes.now) (c.in_ok-reserve.ensures.held ∙ c.new-cutter.ensures.held) in
     record {
       left_is = omega (arith, ap length all);
-      few = omega (arith, c.if-bytes-gt-LONGEST_DOCUMENT.false);
+      few = omega (arith, c.if-bytes-gt-MAX_DOCUMENT_LEN.false);
       so_far = read_none c.args.bytes.now c.new-text.result.items c.feed.new.self.held c.new-text.ensures.items all;
     }
 

@@ -1,7 +1,7 @@
 use Rattle.std.proofs.Common.{◌≡◌, ◌≤◌, ◌+◌, ◌++◌, ℕ, List, length, refl, sym, ap, subst, ◌∙◌, arith, inl, inr, suc}
-use Rattle.propagation.specs.Words.{Apart, Has}
+use Rattle.propagation.specs.Lists.{AreDistinct, Has}
 use Rattle.propagation.proofs.Lists.{Has-append_cases}
-use Rattle.service_machine.specs.Steps.{targets, done, done_log}
+use Rattle.service_machine.specs.Steps.{targets, after_changing, done_log}
 use Rattle.svc_graph.specs.History.{at_clock, dependencies}
 use Rattle.node_core.specs.Outbox.{waiting}
 use Rattle.node_core.specs.View.{Grows}
@@ -15,8 +15,8 @@ use Rattle.settle_core.proofs.acting.do_next.Goals as goal
 pub hand_over-requires-clause-room : goal.hand_over-requires-clause-room
 hand_over-requires-clause-room c = λ q.
     let grows : Grows c.args.node.now c.do_next.new.self (done_log dependencies c.args.node.now.state) = c.in_ok-is_done.ensures.log in
-    let P : List (ℕ × List ℕ) → Type 0 = λ posts. length (waiting q posts) ≤ (link_in c.reserve_named.new.links.items q c.args.id).spare in
-    let apart : Apart (next_names dependencies c.args.node.now.state.left) = next_apart dependencies c.args.node.now.state.left c.requires.next_apart in
+    let P : List (ℕ × List ℕ) → Type 0 = λ outgoing_frames. length (waiting q outgoing_frames) ≤ (link_in c.reserve_named.new.links.items q c.args.id).spare in
+    let apart : AreDistinct (next_names dependencies c.args.node.now.state.left) = next_apart dependencies c.args.node.now.state.left c.requires.next_apart in
     subst P (sym (outbox_more c.args.node.now c.do_next.new.self (done_log dependencies c.args.node.now.state) grows c.requires.ready.handed))
     (room_for grows.more (done_log dependencies c.args.node.now.state) grows.says (targets c.args.node.now.state.edges ++ next_names dependencies c.args.node.now.state.left) c.args.id c.reserve_named.new.links.items
     (done_bounded dependencies c.args.node.now.state c.requires.apart c.args.node.now.state.left refl apart)
@@ -32,9 +32,9 @@ hand_over-requires-clause-room c = λ q.
 
 pub returns-clause-acts : goal.returns-clause-acts
 returns-clause-acts c =
-    let apart : Apart (next_names dependencies c.args.node.now.state.left) = next_apart dependencies c.args.node.now.state.left c.requires.next_apart in
+    let apart : AreDistinct (next_names dependencies c.args.node.now.state.left) = next_apart dependencies c.args.node.now.state.left c.requires.next_apart in
     let waits = same_trans c.args.links.now.items c.reserve_all.new.links.items c.reserve_named.new.links.items c.in_ok-reserve_all.ensures.same c.in_ok-reserve_named.ensures.same in
-    node_acts c.args.id (c.do_next.new.self.handed + length c.do_next.new.self.outbox) (done dependencies c.args.node.now.state) (done_log dependencies c.args.node.now.state)
+    node_acts c.args.id (c.do_next.new.self.handed + length c.do_next.new.self.outbox) (after_changing dependencies c.args.node.now.state) (done_log dependencies c.args.node.now.state)
     c.args.node.now c.do_next.new.self c.hand_over.new.node c.args.links.now.items c.reserve_named.new.links.items c.hand_over.new.links.items
     c.in_ok-is_done.ensures.state c.in_ok-is_done.ensures.log c.requires.ready.handed (λ p. (done_bounded dependencies c.args.node.now.state c.requires.apart c.args.node.now.state.left refl apart).taken_same p)
     c.hand_over.ensures.node waits.waiting c.hand_over.ensures.len c.hand_over.ensures.links

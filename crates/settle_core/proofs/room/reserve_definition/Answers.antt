@@ -1,5 +1,5 @@
 use Rattle.std.proofs.Common.{◌≡◌, ◌≤◌, ◌<◌, length, Result, Ok, Err, OnOk, subst, sym, arith, inl, inr}
-use Rattle.propagation.specs.Words.{Has}
+use Rattle.propagation.specs.Lists.{Has}
 use Rattle.propagation.proofs.Lists.{Has-append_left, Has-append_right, Has-append_cases}
 use Rattle.svc_graph.specs.declared.lent.DefinitionRef.{DefinitionRef}
 use Rattle.svc_graph.specs.History.{dependencies}

@@ -17,8 +17,8 @@ loop-place-preserved g c =
       places = length-set c.loop-place.lagging place c.head_lags.result ∙ c.loop-place.invariant.places;
       found = λ i lt.
           elim (cases_eq i place) [
-            | inl e ↦ subst (λ j. slice_index_or (set c.loop-place.lagging place c.head_lags.result) j false ≡ lags c.args.tops.now (slice_index_or heads j None)) (sym e)
-                (get_or-set_same c.loop-place.lagging place c.head_lags.result false room ∙ c.head_lags.ensures.flag ∙ ap (λ o. lags c.args.tops.now o) (sym at))
+            | inl e ↦ subst (λ j. slice_index_or (set c.loop-place.lagging place c.head_lags.result) j false ≡ lags c.args.greatest_clocks.now (slice_index_or heads j None)) (sym e)
+                (get_or-set_same c.loop-place.lagging place c.head_lags.result false room ∙ c.head_lags.ensures.flag ∙ ap (λ o. lags c.args.greatest_clocks.now o) (sym at))
             | inr ne ↦ get_or-set_other c.loop-place.lagging place i c.head_lags.result false ne ∙ c.loop-place.invariant.found i (omega arith)
           ];
       rising = λ i lt.

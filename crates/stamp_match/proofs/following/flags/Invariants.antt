@@ -7,7 +7,7 @@ use Rattle.stamp_match.proofs.following.flags.Given as goal
 abbrev pub invariant-loop-place : goal.invariant-loop-place
 invariant-loop-place g l = record {
   places : length l.lagging ≡ 16;
-  found : (i : ℕ) → i < l.place → slice_index_or l.lagging i false ≡ lags l.tops (slice_index_or (head_stamps l.slots) i None);
+  found : (i : ℕ) → i < l.place → slice_index_or l.lagging i false ≡ lags l.greatest_clocks (slice_index_or (head_stamps l.slots) i None);
   rising : (i : ℕ) → i < l.place → IsRisingHead (slice_index_or (head_stamps l.slots) i None);
   looks : l.looks + head_keys (drop l.place l.slots) ≤ l.initial.looks + head_keys l.slots;
 }

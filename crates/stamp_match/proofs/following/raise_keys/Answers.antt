@@ -10,7 +10,7 @@ loop-key-init g c =
     record {
       pairs = subst (λ (S : Stamps). ArePairs S) (sym whole) (are-pairs c.args.stamps.now c.iter-key-items.ensures.stamps);
       rising = c.requires.rising;
-      raised = ap (λ (S : Stamps). raise c.args.tops.now S) whole;
+      raised = ap (λ (S : Stamps). raise c.args.greatest_clocks.now S) whole;
       looks = ap (λ (S : Stamps). c.args.looks.now + length S) whole;
       followed = λ place lt h. h;
     }
@@ -24,7 +24,7 @@ loop-key-preserved g c =
     record {
       pairs = pairs-rest c.loop-key.key-iterator c.next.new.self (c.in-Some.key, c.in-Some.clock) c.in-Some.ensures.steps c.loop-key.invariant.pairs;
       rising = c.raise_key.ensures.rising;
-      raised = ap (λ (F : Stamps). raise F c.next.new.self) c.raise_key.ensures.raised ∙ ap (λ (S : Stamps). raise c.loop-key.tops S) (sym c.in-Some.ensures.steps) ∙ c.loop-key.invariant.raised;
+      raised = ap (λ (F : Stamps). raise F c.next.new.self) c.raise_key.ensures.raised ∙ ap (λ (S : Stamps). raise c.loop-key.greatest_clocks S) (sym c.in-Some.ensures.steps) ∙ c.loop-key.invariant.raised;
       looks = omega (arith, c.tick.ensures, c.loop-key.invariant.looks);
       followed = λ place lt h. c.raise_key.ensures.followed place lt (c.loop-key.invariant.followed place lt h);
     }

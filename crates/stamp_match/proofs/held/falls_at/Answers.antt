@@ -7,5 +7,5 @@ use Rattle.stamp_match.proofs.held.falls_at.Goals as goal
 
 pub returns-clause-falls : goal.returns-clause-falls
 returns-clause-falls g c =
-    subst (λ (o : Option Stamps). IsFalse c.falls_by.result ↔ AreReached c.args.tops.now c.args.held o)
+    subst (λ (o : Option Stamps). IsFalse c.falls_by.result ↔ AreReached c.args.greatest_clocks.now c.args.held o)
     (sym (head-at c.args.slots.now c.args.place c.index-slots-place.result c.requires c.index-slots-place.is)) c.falls_by.ensures.falls

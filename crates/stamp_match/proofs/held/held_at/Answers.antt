@@ -10,7 +10,7 @@ use Rattle.stamp_match.proofs.held.held_at.Goals as goal
 
 pub returns-clause-held : goal.returns-clause-held
 returns-clause-held g c =
-    subst (λ (o : Option Stamps). AreHeld c.args.tops.now c.args.floor.now o c.held_by.result)
+    subst (λ (o : Option Stamps). AreHeld c.args.greatest_clocks.now c.args.floor.now o c.held_by.result)
     (sym (head-at c.args.slots.now c.args.place c.index-slots-place.result c.requires c.index-slots-place.is)) c.held_by.ensures.held
 
 pub returns-clause-looks : goal.returns-clause-looks

@@ -1,6 +1,6 @@
 use Rattle.std.proofs.Common.{◌≡◌, ℕ, ◌+◌, ◌≤◌, length}
 use Rattle.propagation.specs.Stamps.{clock_of}
-use Rattle.propagation.specs.Words.{Has}
+use Rattle.propagation.specs.Lists.{Has}
 use Rattle.stamp_clock.proofs.FloorLemmas.{ArePairs}
 use Rattle.stamp_match.proofs.HeldLemmas.{AreFound, AreOf, AreBefore}
 use Rattle.stamp_match.proofs.held.held_in.Given as goal
@@ -11,8 +11,8 @@ invariant-loop-key g l = record {
   pairs : ArePairs l.key-iterator;
   of : AreOf l.stamps l.key-iterator;
   before : AreBefore l.held l.key-iterator;
-  found : AreFound l.tops l.floor l.stamps l.key-iterator l.held;
-  only : (q : ℕ) → Has l.held q → clock_of l.tops q ≤ clock_of l.stamps q;
+  found : AreFound l.greatest_clocks l.floor l.stamps l.key-iterator l.held;
+  only : (q : ℕ) → Has l.held q → clock_of l.greatest_clocks q ≤ clock_of l.stamps q;
   few : length l.held + length l.key-iterator ≤ length l.stamps;
   looks : l.looks + length l.key-iterator ≡ l.initial.looks + length l.stamps;
 }

@@ -5,4 +5,4 @@ use Rattle.stamp_match.proofs.slots.first_lagging.Given as goal
 
 abbrev pub invariant-loop-place : goal.invariant-loop-place
 invariant-loop-place g l =
-    (lagging l.tops l.slots ≡ lagging l.tops (drop l.place l.slots)) × (l.looks + head_keys (drop l.place l.slots) ≤ l.initial.looks + head_keys l.slots)
+    (lagging l.greatest_clocks l.slots ≡ lagging l.greatest_clocks (drop l.place l.slots)) × (l.looks + head_keys (drop l.place l.slots) ≤ l.initial.looks + head_keys l.slots)

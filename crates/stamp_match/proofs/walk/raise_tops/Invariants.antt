@@ -5,4 +5,4 @@ use Rattle.stamp_match.proofs.walk.raise_tops.Given as goal
 
 -- what is left to walk over
 abbrev pub invariant-loop-key : goal.invariant-loop-key
-invariant-loop-key g l = ArePairs l.key-iterator × (raise l.tops l.key-iterator ≡ raise l.initial.tops l.stamps) × (l.looks + length l.key-iterator ≡ l.initial.looks + length l.stamps)
+invariant-loop-key g l = ArePairs l.key-iterator × (raise l.greatest_clocks l.key-iterator ≡ raise l.initial.greatest_clocks l.stamps) × (l.looks + length l.key-iterator ≡ l.initial.looks + length l.stamps)

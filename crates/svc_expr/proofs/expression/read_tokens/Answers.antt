@@ -2,7 +2,7 @@ use Rattle.std.proofs.Common.{ℕ, List, Ok, Err, subst, ap}
 use Rattle.svc_expr.specs.declared.errors.ExprError.{ExprError}
 use Rattle.svc_expr.specs.declared.errors.ExprError.TheVariants.{Bad, TooLarge}
 use Rattle.svc_expr.specs.Tree.{tree_of}
-use Rattle.svc_expr.specs.Small.{reading, Answers}
+use Rattle.svc_expr.specs.SizedExpr.{reading, Answers}
 use Rattle.svc_expr.proofs.Laws.{found_law, bad_law, large_law, error_is}
 use Rattle.svc_expr.proofs.NamesRead.{names_counted, names_differ}
 use Rattle.svc_expr.proofs.expression.read_tokens.Goals as goal

@@ -2,7 +2,7 @@ use Rattle.std.proofs.Common.{◌≡◌, ◌-◌, ◌+◌, length, rules, subst,
 use Rattle.std.proofs.lemmas.Result.{err_from_is_err_and}
 use Rattle.svc_expr.specs.Grammar.{tighter, call_of, aggregate_of}
 use Rattle.svc_expr.specs.Reading.{naming, Part, Read, pair_part, inner, level_at, chain}
-use Rattle.svc_expr.specs.Small.{fit, part_of, Gives}
+use Rattle.svc_expr.specs.SizedExpr.{fit, part_of, Gives}
 use Rattle.svc_expr.proofs.Steps.{called_members, entered, not_entered, bound_ends, end_ends, op_ends, step_goes, step_fails}
 use Rattle.svc_expr.proofs.reading.+reader.Goals as goal
 

@@ -1,7 +1,7 @@
 use Rattle.std.proofs.Common.{◌≡◌, ◌+◌, ◌-◌, ◌*◌}
 use Rattle.svc_expr.specs.Grammar.{tighter}
 use Rattle.svc_expr.specs.Reading.{naming, inner, level_at, chain}
-use Rattle.svc_expr.specs.Small.{fit, part_of}
+use Rattle.svc_expr.specs.SizedExpr.{fit, part_of}
 use Rattle.svc_expr.proofs.Steps.{rank}
 use Rattle.svc_expr.proofs.reading.+reader.Given as goal
 

@@ -9,6 +9,6 @@ returns-then-is_empty-clause-bad c = no_length c.args.rest.now (grind (arith, na
 pub returns-then-rest-gt1-clause-bad : goal.returns-then-rest-gt1-clause-bad
 returns-then-rest-gt1-clause-bad c = high_wrong c.args.rest.now (grind (arith, nat_tests)) (omega arith)
 
-pub returns-then-len-gt-LONGEST_TEXT-clause-bad : goal.returns-then-len-gt-LONGEST_TEXT-clause-bad
-returns-then-len-gt-LONGEST_TEXT-clause-bad c =
+pub returns-then-len-gt-MAX_TEXT_LEN-clause-bad : goal.returns-then-len-gt-MAX_TEXT_LEN-clause-bad
+returns-then-len-gt-MAX_TEXT_LEN-clause-bad c =
     low_wrong c.args.rest.now (grind (arith, nat_tests)) (omega arith) (omega (arith, c.type_inv.rest 1)) (grind (arith, nat_tests))

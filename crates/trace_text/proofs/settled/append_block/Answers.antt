@@ -1,7 +1,7 @@
 use Rattle.std.proofs.Common.{◌≡◌, ◌∙◌, subst, ◌++◌, codes, arith, slice_index_or, []}
 use Rattle.std.specs.Io.{StartsWith}
 use Rattle.svc_graph.specs.History.{declared_row}
-use Rattle.svc_value.specs.Printed.{printed}
+use Rattle.svc_value.specs.Printed.{printed_value}
 use Rattle.svc_value.specs.declared.value.ValueType.TheVariants.{Int}
 use Rattle.trace_text.specs.Settled.{settle_line}
 use Rattle.trace_text.proofs.Lines.{value_lines-more, starts_further}
@@ -20,4 +20,4 @@ loop-i-preserved c =
     let value : last ≡ slice_index_or c.args.values.now c.loop-i.i last = c.index-values-i.is in
     value_lines-more c.args.book.now c.args.values.now c.loop-i.i row last c.args.out.now.items (settle_line c.args.k) c.loop-i.out.items c.append_line.new.out.items
     (omega arith) (omega arith) c.loop-i.invariant
-    (c.in_ok-append_line.ensures.ok ∙ (λ i. c.loop-i.out.items ++ (name i ++ codes " " ++ printed (value i) ++ codes "\n")))
+    (c.in_ok-append_line.ensures.ok ∙ (λ i. c.loop-i.out.items ++ (name i ++ codes " " ++ printed_value (value i) ++ codes "\n")))

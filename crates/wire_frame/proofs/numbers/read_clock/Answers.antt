@@ -1,5 +1,5 @@
 use Rattle.std.specs.Int.{w32, from_be_bytes}
-use Rattle.wire_frame.specs.Frames.{word}
+use Rattle.wire_frame.specs.Frames.{u32_bytes}
 use Rattle.std.proofs.Common.{sym, ◌∙◌, ◌++◌, ◌+◌, ℕ, List, length, drop, ap, refl, arith}
 use Rattle.std.proofs.lemmas.List.{take_rest, drop-drop}
 use Rattle.wire_frame.proofs.Digits.{AreBytes, bytes_from, clock_short, clock_zero, clock_next}
@@ -33,4 +33,4 @@ returns-in_default-from_be_bytes-clause-clock c =
     let same = take_rest bytes at in
     let next = clock_next c.args.field (drop at bytes) c.from_be_bytes.result (bytes_from bytes at fits) (omega (arith, ap length same))
     (c.from_be_bytes.ensures ∙ ap (λ (bs : List ℕ). from_be_bytes w32 bs) same) (omega arith) in
-    record { good = next.good; end = refl; within = omega (arith, ap length same); is = next.is ∙ ap (λ rest. word c.from_be_bytes.result ++ rest) (drop-drop 4 at bytes) }
+    record { good = next.good; end = refl; within = omega (arith, ap length same); is = next.is ∙ ap (λ rest. u32_bytes c.from_be_bytes.result ++ rest) (drop-drop 4 at bytes) }

@@ -1,11 +1,11 @@
 use Rattle.std.proofs.Common.{◌<◌, ◌≤◌, ◌+◌, sym, subst, arith, List, length}
-use Rattle.propagation.specs.Words.{Has}
+use Rattle.propagation.specs.Lists.{Has}
 use Rattle.service_machine.specs.States.{Slot}
 use Rattle.svc_graph.specs.Book.{IsDefinitionOf}
 use Rattle.svc_graph.specs.declared.definition.Definition.{Definition}
 use Rattle.svc_value.specs.declared.value.Value.{Value}
 use Rattle.node_core.specs.Coming.{coming}
-use Rattle.node_core.specs.View.{Service, AreInOrder, AreCounted}
+use Rattle.node_core.specs.View.{NodeView, AreInOrder, AreCounted}
 use Rattle.node_core.proofs.DefinitionLemmas.{defined_open}
 use Rattle.node_core.proofs.MatcherLemmas.{matched_begun}
 use Rattle.node_core.proofs.SlotLemmas.{in_order_open, counted_open}
@@ -13,14 +13,14 @@ use Rattle.node_core.proofs.node.Node.begin_leg.Goals as goal
 
 pub invariant_of-self : goal.invariant_of-self
 invariant_of-self c =
-    let known = (let P : Service → Type 0 = λ s. s.state.id < length c.args.roster in subst P (sym {A = Service} c.self.view_is) c.requires.known) in
-    let clock = (let P : Service → Type 0 = λ s. s.state.own + length c.args.changes.items ≤ 1024000 in subst P (sym {A = Service} c.self.view_is) c.requires.clock) in
-    let accepted = (let P : Service → Type 0 = λ s. (d : Definition) → Has (coming s.state.by c.args.changes.items) d → IsDefinitionOf c.args.roster s.state.id d in
-    subst P (sym {A = Service} c.self.view_is) c.requires.accepted) in
+    let known = (let P : NodeView → Type 0 = λ s. s.state.id < length c.args.roster in subst P (sym {A = NodeView} c.self.view_is) c.requires.known) in
+    let clock = (let P : NodeView → Type 0 = λ s. s.state.own + length c.args.changes.items ≤ 1024000 in subst P (sym {A = NodeView} c.self.view_is) c.requires.clock) in
+    let accepted = (let P : NodeView → Type 0 = λ s. (d : Definition) → Has (coming s.state.definition c.args.changes.items) d → IsDefinitionOf c.args.roster s.state.id d in
+    subst P (sym {A = NodeView} c.self.view_is) c.requires.accepted) in
     record {
       few = c.requires.few;
       within = omega arith;
-      defined = defined_open c.self.inside.id c.self.inside.own c.self.inside.by _ c.args.roster c.args.changes.items c.self.invariant.defined known c.requires.few accepted clock;
+      defined = defined_open c.self.inside.id c.self.inside.own c.self.inside.definition _ c.args.roster c.args.changes.items c.self.invariant.defined known c.requires.few accepted clock;
       in_order = (let P : List (Slot Value) → Type 0 = λ slots. AreInOrder c.self.inside.edges slots in subst P (sym c.begin_all.ensures) (in_order_open c.self.inside.edges c.self.inside.slots.items c.self.invariant.in_order));
       within_layout = c.self.invariant.within_layout;
       counted = (let P : List (Slot Value) → Type 0 = λ slots. AreCounted c.self.inside.journal.entries slots in subst P (sym c.begin_all.ensures) (counted_open c.self.inside.journal.entries c.self.inside.slots.items c.self.invariant.counted));

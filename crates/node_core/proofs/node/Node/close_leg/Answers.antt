@@ -3,7 +3,7 @@ use Rattle.service_machine.specs.States.{Slot}
 use Rattle.service_machine.specs.Openings.{AtRest, first_slots}
 use Rattle.svc_value.specs.declared.value.Value.{Value}
 use Rattle.node_core.specs.declared.entry.Entry.{Entry}
-use Rattle.node_core.specs.View.{Service, AreInOrder, AreCounted}
+use Rattle.node_core.specs.View.{NodeView, AreInOrder, AreCounted}
 use Rattle.node_core.specs.Inside.{service_of}
 use Rattle.node_core.proofs.DefinitionLemmas.{all_done, defined_close}
 use Rattle.node_core.proofs.MatcherLemmas.{matched_begun}
@@ -12,12 +12,12 @@ use Rattle.node_core.proofs.node.Node.close_leg.Goals as goal
 
 pub invariant_of-self : goal.invariant_of-self
 invariant_of-self c =
-    let rest : AtRest (service_of c.self.inside).state = (let P : Service → Type 0 = λ s. AtRest s.state in subst P (sym {A = Service} c.self.view_is) c.requires.rest) in
-    let gone = all_done c.self.inside.by c.clear-2.new.self.items 0 (omega (arith, c.clear-2.ensures.len)) in
+    let rest : AtRest (service_of c.self.inside).state = (let P : NodeView → Type 0 = λ s. AtRest s.state in subst P (sym {A = NodeView} c.self.view_is) c.requires.rest) in
+    let gone = all_done c.self.inside.definition c.clear-2.new.self.items 0 (omega (arith, c.clear-2.ensures.len)) in
     record {
       few = c.self.invariant.few;
       within = omega arith;
-      defined = defined_close c.self.inside.id c.self.inside.own c.self.inside.by _ _ rest.all_done gone c.self.invariant.defined;
+      defined = defined_close c.self.inside.id c.self.inside.own c.self.inside.definition _ _ rest.all_done gone c.self.invariant.defined;
       in_order = (let P : List (Slot Value) → Type 0 = λ slots. AreInOrder c.self.inside.edges slots in subst P (sym c.begin_all.ensures) (in_order_open c.self.inside.edges c.self.inside.slots.items c.self.invariant.in_order));
       within_layout = c.self.invariant.within_layout;
       counted = (let P : List (Slot Value) → Type 0 = λ slots. AreCounted c.clear.new.self.entries slots in

@@ -11,10 +11,10 @@ use Rattle.service_machine.specs.Steps.{sends_to}
 use Rattle.svc_graph.specs.declared.kind.Kind.{Kind}
 use Rattle.wire_frame.specs.declared.frame.Frame.TheVariants.{Subscribe}
 use Rattle.node_core.specs.Inside.{service_of}
-use Rattle.node_core.specs.Mail.{Says}
+use Rattle.node_core.specs.Outgoing.{Says}
 use Rattle.node_core.specs.Ranks.{rank_in}
 use Rattle.node_core.specs.Taking.{TellsOf, failed_test}
-use Rattle.node_core.specs.View.{Service}
+use Rattle.node_core.specs.View.{NodeView}
 use Rattle.node_core.proofs.TakeLemmas.{reads_told, grows_took, counted_longer}
 use Rattle.node_core.proofs.node.Node.take_subscribe.Goals as goal
 
@@ -24,7 +24,7 @@ returns-in-Err-clause-refused c =
     let reads_are = sym (reads_told (stamps_of c.self.inside.last) c.self.inside.readers.present c.args.sender) in
     let test_is : refuse_subscribe c.is_below-above.result (epoch_in c.self.inside.readers.present c.args.sender) (clock_of c.self.inside.readers.past c.args.sender) c.args.epoch ≡ failed_test (service_of c.self.inside) c.args.sender (TheSubscribe c.args.epoch) =
     (λ i. refuse_subscribe (above_is i) (reads_are i) (clock_of c.self.inside.readers.past c.args.sender) c.args.epoch) in
-    let P : Service → Type 0 = λ s. TellsOf (failed_test s c.args.sender (TheSubscribe c.args.epoch)) c.of_readers.result in
+    let P : NodeView → Type 0 = λ s. TellsOf (failed_test s c.args.sender (TheSubscribe c.args.epoch)) c.of_readers.result in
     let Q : Option Refusal → Type 0 = λ o. TellsOf o c.of_readers.result in
     subst P c.self.view_is (subst Q (c.in-Err.ensures.exactly ∙ test_is) c.of_readers.ensures)
 
@@ -44,7 +44,7 @@ invariant_of-self-2 c =
             (All-cons (λ (reader : ℕ × ℕ). 1 ≤ reader.1) (c.args.sender, c.args.epoch) [] c.requires.frame.within (All-nil (λ (reader : ℕ × ℕ). 1 ≤ reader.1)))));
         told = c.self.invariant.within_layout.told;
       };
-      counted = counted_longer _ _ _ _ _ c.self.inside.slots.items c.in-Ok.ensures.same.entries c.record-mail.ensures.entries c.self.invariant.counted;
+      counted = counted_longer _ _ _ _ _ c.self.inside.slots.items c.in-Ok.ensures.same.entries c.record-outgoing.ensures.entries c.self.invariant.counted;
       matched = c.self.invariant.matched;
     }
 
@@ -54,14 +54,14 @@ returns-clause-tested c =
     let reads_are = sym (reads_told (stamps_of c.self.inside.last) c.self.inside.readers.present c.args.sender) in
     let test_is : refuse_subscribe c.is_below-above.result (epoch_in c.self.inside.readers.present c.args.sender) (clock_of c.self.inside.readers.past c.args.sender) c.args.epoch ≡ failed_test (service_of c.self.inside) c.args.sender (TheSubscribe c.args.epoch) =
     (λ i. refuse_subscribe (above_is i) (reads_are i) (clock_of c.self.inside.readers.past c.args.sender) c.args.epoch) in
-    sym (c.in_default-subscribe.ensures.exactly ∙ test_is ∙ ap (λ (s : Service). failed_test s c.args.sender (TheSubscribe c.args.epoch)) c.self.view_is)
+    sym (c.in_default-subscribe.ensures.exactly ∙ test_is ∙ ap (λ (s : NodeView). failed_test s c.args.sender (TheSubscribe c.args.epoch)) c.self.view_is)
 
 pub returns-clause-log : goal.returns-clause-log
 returns-clause-log c =
-    grows_took c.args.self.now _ c.args.sender c.args.bytes (TheSubscribe c.args.epoch) c.staged_welcome.new.journal.entries c.staged_welcome.new.journal.outbox c.in-Ok.mail
-    c.record-mail.ensures.entries (c.in-Ok.ensures.same.entries ∙ ap (λ (s : Service). s.entries) c.self.view_is)
-    c.record-mail.ensures.outbox (c.in-Ok.ensures.same.outbox ∙ ap (λ (s : Service). s.outbox) c.self.view_is)
-    (c.record-mail.ensures.handed ∙ c.in-Ok.ensures.same.handed ∙ ap (λ (s : Service). s.handed) c.self.view_is)
-    (ap (λ (s : Service). s.roster) c.self.view_is) (ap (λ (s : Service). s.changes) c.self.view_is)
+    grows_took c.args.self.now _ c.args.sender c.args.bytes (TheSubscribe c.args.epoch) c.staged_welcome.new.journal.entries c.staged_welcome.new.journal.outbox c.in-Ok.outgoing
+    c.record-outgoing.ensures.entries (c.in-Ok.ensures.same.entries ∙ ap (λ (s : NodeView). s.entries) c.self.view_is)
+    c.record-outgoing.ensures.outbox (c.in-Ok.ensures.same.outbox ∙ ap (λ (s : NodeView). s.outbox) c.self.view_is)
+    (c.record-outgoing.ensures.handed ∙ c.in-Ok.ensures.same.handed ∙ ap (λ (s : NodeView). s.handed) c.self.view_is)
+    (ap (λ (s : NodeView). s.roster) c.self.view_is) (ap (λ (s : NodeView). s.changes) c.self.view_is)
     (record { frame = Subscribe c.args.epoch; frame_of = c.requires.frame; is = refl })
-    (let P : Service → Type 0 = λ s. Says c.in-Ok.mail (sends_to c.args.sender (reply (TheSubscribe c.args.epoch) s.state.last)) in subst P c.self.view_is c.in-Ok.ensures.says)
+    (let P : NodeView → Type 0 = λ s. Says c.in-Ok.outgoing (sends_to c.args.sender (reply (TheSubscribe c.args.epoch) s.state.last)) in subst P c.self.view_is c.in-Ok.ensures.says)

@@ -7,11 +7,11 @@ use Rattle.rewire_core.specs.Reading.{Reading}
 use Rattle.service_machine.specs.Refusing.{Refusal}
 use Rattle.service_machine.specs.Refusing.Refusal.{Unknown}
 use Rattle.service_machine.specs.States.{dropped}
-use Rattle.service_machine.specs.Steps.{took}
+use Rattle.service_machine.specs.Steps.{after_taking}
 use Rattle.wire_frame.specs.declared.frame.Frame.TheVariants.{Unsubscribe}
 use Rattle.node_core.specs.Inside.{service_of}
 use Rattle.node_core.specs.Taking.{TellsOf, failed_test}
-use Rattle.node_core.specs.View.{Service, told_all}
+use Rattle.node_core.specs.View.{NodeView, told_all}
 use Rattle.node_core.proofs.TakeLemmas.{reads_told, dropped_told, grows_took, says_nothing, counted_longer}
 use Rattle.node_core.proofs.node.Node.take_unsubscribe.Goals as goal
 
@@ -22,7 +22,7 @@ unknown reads e = if is_epoch reads e then None else Some Unknown
 pub returns-in-Err-clause-refused : goal.returns-in-Err-clause-refused
 unfolding unknown
 returns-in-Err-clause-refused c =
-    let P : Service → Type 0 = λ s. TellsOf (failed_test s c.args.sender (TheUnsubscribe c.args.epoch)) c.of_readers.result in
+    let P : NodeView → Type 0 = λ s. TellsOf (failed_test s c.args.sender (TheUnsubscribe c.args.epoch)) c.of_readers.result in
     let Q : Option Refusal → Type 0 = λ o. TellsOf o c.of_readers.result in
     subst P c.self.view_is
     (subst Q (c.in-Err.ensures.exactly ∙ ap (λ o. unknown o c.args.epoch) (sym (reads_told (stamps_of c.self.inside.last) c.self.inside.readers.present c.args.sender))) c.of_readers.ensures)
@@ -48,7 +48,7 @@ invariant_of-self-2 c =
 pub returns-clause-tested : goal.returns-clause-tested
 unfolding unknown
 returns-clause-tested c =
-    sym (ap (λ (s : Service). failed_test s c.args.sender (TheUnsubscribe c.args.epoch)) c.self.view_is)
+    sym (ap (λ (s : NodeView). failed_test s c.args.sender (TheUnsubscribe c.args.epoch)) c.self.view_is)
     ∙ ap (λ o. unknown o c.args.epoch) (reads_told (stamps_of c.self.inside.last) c.self.inside.readers.present c.args.sender)
     ∙ sym c.in_default.ensures.exactly
 
@@ -58,14 +58,14 @@ returns-clause-state c =
     ap (λ (r : Reading). told_all (stamps_of c.self.inside.last) r.present) c.in_default.ensures.ok ∙ dropped_told (stamps_of c.self.inside.last) c.self.inside.readers.present c.args.sender in
     let past_is : c.unsubscribe.new.self.past ≡ c.self.inside.readers.past = ap (λ (r : Reading). r.past) c.in_default.ensures.ok in
     (λ i. record (service_of c.self.inside).state { readers = readers_are i; past = past_is i })
-    ∙ ap (λ (s : Service). took c.args.sender (TheUnsubscribe c.args.epoch) s.state) c.self.view_is
+    ∙ ap (λ (s : NodeView). after_taking c.args.sender (TheUnsubscribe c.args.epoch) s.state) c.self.view_is
 
 pub returns-clause-log : goal.returns-clause-log
 returns-clause-log c =
     grows_took c.args.self.now _ c.args.sender c.args.bytes (TheUnsubscribe c.args.epoch) c.reserve.new.self.entries c.reserve.new.self.outbox c.new.result
-    c.record.ensures.entries (c.reserve.ensures.same.entries ∙ ap (λ (s : Service). s.entries) c.self.view_is)
-    c.record.ensures.outbox (c.reserve.ensures.same.outbox ∙ ap (λ (s : Service). s.outbox) c.self.view_is)
-    (c.record.ensures.handed ∙ c.reserve.ensures.same.handed ∙ ap (λ (s : Service). s.handed) c.self.view_is)
-    (ap (λ (s : Service). s.roster) c.self.view_is) (ap (λ (s : Service). s.changes) c.self.view_is)
+    c.record.ensures.entries (c.reserve.ensures.same.entries ∙ ap (λ (s : NodeView). s.entries) c.self.view_is)
+    c.record.ensures.outbox (c.reserve.ensures.same.outbox ∙ ap (λ (s : NodeView). s.outbox) c.self.view_is)
+    (c.record.ensures.handed ∙ c.reserve.ensures.same.handed ∙ ap (λ (s : NodeView). s.handed) c.self.view_is)
+    (ap (λ (s : NodeView). s.roster) c.self.view_is) (ap (λ (s : NodeView). s.changes) c.self.view_is)
     (record { frame = Unsubscribe c.args.epoch; frame_of = c.requires.frame; is = refl })
     (says_nothing c.args.sender (TheUnsubscribe c.args.epoch) c.args.self.now.state.last c.new.result c.new.ensures refl)

@@ -1,7 +1,7 @@
 use Rattle.std.proofs.Common.{ap}
-use Rattle.node_core.specs.View.{Service}
+use Rattle.node_core.specs.View.{NodeView}
 use Rattle.node_tests.proofs.ServiceLemmas.{stays}
 use Rattle.node_tests.proofs.tests.nodes.handed_over.Goals as goal
 
 pub returns : goal.returns
-returns c = stays c.args.node.now c.next_out.new.self (ap (λ (s : Service). s.state) c.next_out.ensures.rest)
+returns c = stays c.args.node.now c.next_out.new.self (ap (λ (s : NodeView). s.state) c.next_out.ensures.rest)

@@ -1,9 +1,9 @@
 use Rattle.std.proofs.Common.{ℕ, List, [], ◌∷◌, ◌<◌, length, arith}
-use Rattle.propagation.specs.Words.{Apart}
+use Rattle.propagation.specs.Lists.{AreDistinct}
 use Rattle.node_tests.proofs.tests.written.differ.Goals as goal
 
 -- less than two differ
-apart_one : (ids : List ℕ) → length ids < 2 → Apart ids
+apart_one : (ids : List ℕ) → length ids < 2 → AreDistinct ids
 apart_one [] few = tt
 apart_one (id ∷ []) few = ((λ h. h), tt)
 apart_one (id ∷ other ∷ rest) few = absurd (omega (arith, few))

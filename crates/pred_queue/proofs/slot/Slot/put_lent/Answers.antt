@@ -12,7 +12,7 @@ pub invariant_of-self-in-Ok-next_stamps : goal.invariant_of-self-in-Ok-next_stam
 invariant_of-self-in-Ok-next_stamps g c =
     let told = c.in-Some.announced in
     let before : IsQueue (Some told.epoch) c.self.inside.queue.items = subst (λ (o : Option Told). IsQueue (epoch_told o) c.self.inside.queue.items) c.in-Some.is c.self.invariant in
-    let now : told.epoch ≡ c.args.epoch = put-epoch told.epoch c.args.epoch told.keys told.carried (pairs (g.L.Lent.named c.args.clocks.now)) (sym c.in_default-check.ensures.exactly) in
+    let now : told.epoch ≡ c.args.epoch = put-epoch told.epoch c.args.epoch told.keys told.carried (pairs (g.L.ClocksRef.named c.args.clocks.now)) (sym c.in_default-check.ensures.exactly) in
     let after : c.next_stamps.new.announced.epoch ≡ c.args.epoch = ap (λ (t : Told). t.epoch) c.in-Ok-next_stamps.ensures.ok ∙ now in
     let come : ℕ × Emission Value = (c.args.epoch, record { value = c.args.value; stamps = c.in-Ok-next_stamps.stamps }) in
     let more : c.push_back_reserved.new.self.items ≡ c.self.inside.queue.items ++ come ∷ [] =

@@ -1,6 +1,6 @@
 use Rattle.std.proofs.Common.{ℕ, List, ◌/◌, ◌^◌, ◌<◌, ◌↔◌, sym, subst, arith, IsTrue, nat_eq, bit_and}
 use Rattle.std.proofs.lemmas.Bool.{ltb-true}
-use Rattle.propagation.specs.Words.{Has}
+use Rattle.propagation.specs.Lists.{Has}
 use Rattle.stamp_clock.specs.Places.{places}
 use Rattle.stamp_clock.proofs.PlacesLemmas.{bit-tested, has-word}
 use Rattle.stamp_clock.proofs.keys.KeySet.contains.Goals as goal

@@ -1,5 +1,5 @@
 use Rattle.std.proofs.Common.{ℕ, ◌<◌, List, sym, subst}
-use Rattle.propagation.specs.Words.{Has}
+use Rattle.propagation.specs.Lists.{Has}
 use Rattle.stamp_clock.proofs.RiseLemmas.{rise-before, all-has}
 use Rattle.stamp_clock.proofs.keys.KeySet.of.Goals as goal
 

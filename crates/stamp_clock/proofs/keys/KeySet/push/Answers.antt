@@ -1,5 +1,5 @@
 use Rattle.std.proofs.Common.{ℕ, ◌<◌, List, ◌∷◌, [], ◌++◌, sym, ap₂, subst, ◌∙◌}
-use Rattle.propagation.specs.Words.{Has}
+use Rattle.propagation.specs.Lists.{Has}
 use Rattle.stamp_clock.specs.Places.{places}
 use Rattle.stamp_clock.proofs.RiseLemmas.{has-all}
 use Rattle.stamp_clock.proofs.PlacesLemmas.{places-set, fits-set}

@@ -1,6 +1,6 @@
 use Rattle.std.proofs.Common.{◌≡◌, ℕ, ◌*◌, ◌-◌, ◌%◌, ◌^◌, ◌<◌, List, length, get_or, sym, subst, ◌∙◌, arith, count_ones, bit_and}
 use Rattle.std.proofs.lemmas.Nat.{one_shl, pow_pos}
-use Rattle.propagation.specs.Words.{Has}
+use Rattle.propagation.specs.Lists.{Has}
 use Rattle.stamp_clock.specs.Places.{places}
 use Rattle.stamp_clock.proofs.PlacesLemmas.{rank-at, has-word}
 use Rattle.stamp_clock.proofs.keys.KeySet.rank.Goals as goal

@@ -1,6 +1,6 @@
 use Rattle.std.proofs.Common.{List, ℕ, ◌↔◌, ◌⊎◌, subst, bit_or}
 use Rattle.std.proofs.lemmas.Nat.{or_lt}
-use Rattle.propagation.specs.Words.{Has}
+use Rattle.propagation.specs.Lists.{Has}
 use Rattle.stamp_clock.specs.Places.{places}
 use Rattle.stamp_clock.proofs.PlacesLemmas.{places-or, are-keys}
 use Rattle.stamp_clock.proofs.keys.KeySet.union.Goals as goal

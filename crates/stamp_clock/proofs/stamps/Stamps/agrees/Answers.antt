@@ -1,5 +1,5 @@
 use Rattle.std.proofs.Common.{ℕ, ◌<◌, List, sym, subst, ◌∙◌, inl, inr, IsTrue}
-use Rattle.propagation.specs.Words.{Has}
+use Rattle.propagation.specs.Lists.{Has}
 use Rattle.propagation.specs.Stamps.{clock_of}
 use Rattle.stamp_clock.proofs.JoinLemmas.{is-key, rest-start, rest-first, rest-next, rest-clock, agree-step}
 use Rattle.stamp_clock.proofs.stamps.Stamps.agrees.Goals as goal

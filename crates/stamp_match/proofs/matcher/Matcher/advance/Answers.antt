@@ -2,7 +2,7 @@ use Rattle.std.proofs.Common.{◌≡◌, ◌<◌, ◌≤◌, inl, inr, ℕ, None
 use Rattle.std.proofs.lemmas.List.{map-set, get_or-set_same, length-take-le}
 use Rattle.std.proofs.Math.Seq.{take-set-lt}
 use Rattle.propagation.specs.Stamps.{Stamps, clock_of}
-use Rattle.propagation.specs.Words.{Has}
+use Rattle.propagation.specs.Lists.{Has}
 use Rattle.svc_value.specs.declared.value.Value.{Value}
 use Rattle.service_machine.specs.States.{Slot}
 use Rattle.stamp_match.specs.Falling.{AreReached, NoneFalls}
@@ -31,8 +31,8 @@ returns-clause-matcher g c =
           (subst (λ hs. IsMoved hs place c.args.self.now c.renew.new.self) same moved.1)
           (λ q top above.
           let has : Has c.held_at-held.result q = c.held_at-held.ensures.held.all q top above in
-          let reached : clock_of c.args.self.now.tops q ≤ clock_in head q = reached-in c.args.self.now.tops c.held_at-held.result head (subst (λ o. AreReached c.args.self.now.tops c.held_at-held.result o) there moved.0) q has in
-          let most : clock_in (slice_index_or heads place None) q ≤ clock_of c.args.self.now.tops q = (kept-followed heads c.args.floor.now c.args.self.now place c.requires.matcher within).within q in
+          let reached : clock_of c.args.self.now.greatest_clocks q ≤ clock_in head q = reached-in c.args.self.now.greatest_clocks c.held_at-held.result head (subst (λ o. AreReached c.args.self.now.greatest_clocks c.held_at-held.result o) there moved.0) q has in
+          let most : clock_in (slice_index_or heads place None) q ≤ clock_of c.args.self.now.greatest_clocks q = (kept-followed heads c.args.floor.now c.args.self.now place c.requires.matcher within).within q in
           omega arith))
     ]
 
@@ -43,8 +43,8 @@ returns-clause-looks g c none =
     let new : List (Slot Value) = set c.args.slots.now c.args.place c.advance.new.self in
     let old_keys : keys_in (slot_in (take c.args.count slots) place).head ≡ keys_in (slot_in slots place).head = ap (λ (s : Slot Value). keys_in s.head) (slot-first c.args.count slots place c.requires.place) in
     let new_keys : keys_in (slot_in (take c.args.count new) place).head ≡ keys_in (slot_in new place).head = ap (λ (s : Slot Value). keys_in s.head) (slot-first c.args.count new place c.requires.place) in
-    let reached : AreReached c.args.self.now.tops c.held_at-held.result (slice_index_or (head_stamps (take c.args.count new)) place None) =
-    reached-held c.args.self.now.tops c.held_at-held.result (slice_index_or (head_stamps (take c.args.count slots)) place None) (slice_index_or (head_stamps (take c.args.count new)) place None) c.held_at-held.ensures.held.only
+    let reached : AreReached c.args.self.now.greatest_clocks c.held_at-held.result (slice_index_or (head_stamps (take c.args.count new)) place None) =
+    reached-held c.args.self.now.greatest_clocks c.held_at-held.result (slice_index_or (head_stamps (take c.args.count slots)) place None) (slice_index_or (head_stamps (take c.args.count new)) place None) c.held_at-held.ensures.held.only
     (subst (λ o. NoneFalls o (slice_index_or (head_stamps (take c.args.count new)) place None)) (sym (head-first c.args.count slots place c.requires.place))
     (subst (λ o. NoneFalls (slice_index_or (head_stamps slots) place None) o) (sym (head-first c.args.count new place c.requires.place)) none)) in
     omega (arith, c.held_at-held.ensures.few, c.held_at-held.ensures.looks, c.renew.ensures.looks reached)

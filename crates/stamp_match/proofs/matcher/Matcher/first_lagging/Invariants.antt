@@ -4,4 +4,4 @@ use Rattle.stamp_match.proofs.matcher.Matcher.first_lagging.Given as goal
 
 -- none of the first heads lags
 abbrev pub invariant-loop-place : goal.invariant-loop-place
-invariant-loop-place l = lagging l.self.tops l.slots ≡ lagging l.self.tops (drop l.place l.slots)
+invariant-loop-place l = lagging l.self.greatest_clocks l.slots ≡ lagging l.self.greatest_clocks (drop l.place l.slots)

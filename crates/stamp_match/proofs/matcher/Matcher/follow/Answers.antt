@@ -16,6 +16,6 @@ returns-clause-moved g c =
       head = subst IsRisingHead (sym at) c.head_lags.ensures.rising;
       raised = c.raise_head.ensures.raised.raised;
       others = λ other lt ne h.
-          subst (λ flag. IsFollowed c.raise_head.new.self.tops flag (slice_index_or heads other None)) (sym (get_or-set_other old c.args.place other c.head_lags.result false ne)) (c.raise_head.ensures.raised.followed other lt h);
-      own = get_or-set_same old c.args.place c.head_lags.result false room ∙ c.head_lags.ensures.flag ∙ ap (λ o. lags c.raise_head.new.self.tops o) (sym at);
+          subst (λ flag. IsFollowed c.raise_head.new.self.greatest_clocks flag (slice_index_or heads other None)) (sym (get_or-set_other old c.args.place other c.head_lags.result false ne)) (c.raise_head.ensures.raised.followed other lt h);
+      own = get_or-set_same old c.args.place c.head_lags.result false room ∙ c.head_lags.ensures.flag ∙ ap (λ o. lags c.raise_head.new.self.greatest_clocks o) (sym at);
     }

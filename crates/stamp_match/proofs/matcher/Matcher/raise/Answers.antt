@@ -9,7 +9,7 @@ use Rattle.stamp_match.proofs.matcher.Matcher.raise.Goals as goal
 pub returns-clause-matcher : goal.returns-clause-matcher
 returns-clause-matcher g c =
     let heads = head_stamps c.args.slots.now in
-    let new : Matcher = record { tops = c.raise_keys.new.tops; lagging = c.raise_keys.new.lagging } in
+    let new : Matcher = record { greatest_clocks = c.raise_keys.new.greatest_clocks; lagging = c.raise_keys.new.lagging } in
     let same : length heads ≡ length c.args.slots.now = length-heads c.args.slots.now in
     subst (λ (F : Stamps). IsKept heads F new) (sym c.raise.ensures.raised)
     (kept-raised heads c.args.floor.now c.args.stamps.now c.args.self.now new c.requires c.raise_keys.ensures.stamps.rising (c.raise_keys.auto.lagging ∙ c.requires.places) c.raise_keys.ensures.raised

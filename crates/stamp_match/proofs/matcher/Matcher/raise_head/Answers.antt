@@ -18,7 +18,7 @@ returns-clause-raised g c =
       places = c.raise_keys.auto.lagging ∙ c.requires.places;
       rising = c.raise_keys.ensures.rising;
       raised = λ q.
-          ap (λ (S : Stamps). clock_of S q) c.raise_keys.ensures.raised ∙ raise-clock c.args.self.now.tops 0 c.head-2.inside.stamps q c.requires.rising c.raise_keys.ensures.stamps.rising
-          ∙ ap (λ (o : Option Stamps). max (clock_of c.args.self.now.tops q) (clock_in o q)) (sym at);
+          ap (λ (S : Stamps). clock_of S q) c.raise_keys.ensures.raised ∙ raise-clock c.args.self.now.greatest_clocks 0 c.head-2.inside.stamps q c.requires.rising c.raise_keys.ensures.stamps.rising
+          ∙ ap (λ (o : Option Stamps). max (clock_of c.args.self.now.greatest_clocks q) (clock_in o q)) (sym at);
       followed = λ other lt. c.raise_keys.ensures.followed other (omega arith);
     }

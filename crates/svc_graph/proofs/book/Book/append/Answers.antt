@@ -2,7 +2,7 @@ use Rattle.std.proofs.Common.{◌≡◌, ◌∙◌, ◌<◌, length, is_some, fa
 use Rattle.svc_graph.proofs.Books.{IsBook-push}
 use Rattle.svc_graph.proofs.Rows.{length-book, rows_of-push, place_of-book, AreColumns-push}
 use Rattle.svc_graph.specs.Columns.{bytes_of, rows_of}
-use Rattle.svc_graph.specs.History.{place_of}
+use Rattle.svc_graph.specs.History.{find_service}
 use Rattle.svc_graph.proofs.book.Book.append.Goals as goal
 
 pub overflow_cast-result : goal.overflow_cast-result
@@ -15,7 +15,7 @@ insert-requires c = rw (← place_of-book c.self.invariant c.args.name.now, c.se
 
 pub invariant_of-self-2 : goal.invariant_of-self-2
 invariant_of-self-2 c =
-    let new : is_some (place_of (rows_of (bytes_of c.self.inside.names.keys) c.self.inside.kinds.items c.self.inside.histories.items) c.args.name.now) ≡ false = rw c.self.view_is c.requires.new in
+    let new : is_some (find_service (rows_of (bytes_of c.self.inside.names.keys) c.self.inside.kinds.items c.self.inside.histories.items) c.args.name.now) ≡ false = rw c.self.view_is c.requires.new in
     let room : length (rows_of (bytes_of c.self.inside.names.keys) c.self.inside.kinds.items c.self.inside.histories.items) < 64 = rw c.self.view_is c.requires.room in
     let more = AreColumns-push c.self.invariant c.args.name.now c.args.kind (IsBook-push _ c.args.name.now c.args.kind.rank c.args.kind.ty c.self.invariant.book new room c.requires.rank) in
     rw (c.in_ok-insert.ensures.ok, c.push_reserved.ensures, c.push_reserved-2.ensures, c.reserve.ensures.items, c.reserve-2.ensures.items, c.new.ensures) more

@@ -1,6 +1,6 @@
 use Rattle.std.proofs.Common.{◌≡◌, ◌∙◌, ◌-◌, ◌<◌, false, length, get_or, sym, subst, arith}
 use Rattle.std.proofs.lemmas.List.{get_or_default}
-use Rattle.propagation.specs.Words.{Has}
+use Rattle.propagation.specs.Lists.{Has}
 use Rattle.svc_graph.proofs.Ordered.{services_within}
 use Rattle.svc_graph.proofs.Reached.{Below, Marked, Marked-more, Marked-one, Has-marked, Rise-filter, marked-Has, marked-reached}
 use Rattle.svc_graph.proofs.book.Book.closure.Goals as goal
@@ -29,11 +29,11 @@ loop-step-preserved c =
     (c.mark_below.auto.marks ∙ c.loop-step.invariant.room) below
 
 pub returns-clause-rising : goal.returns-clause-rising
-returns-clause-rising c = rw (c.from_vec.ensures, c.in_ok-marked.ensures) (Rise-filter (λ p. get_or c.loop-step.marks p false) c.len-count.result)
+returns-clause-rising c = rw (c.from_vec.ensures, c.in_ok-marked_services.ensures) (Rise-filter (λ p. get_or c.loop-step.marks p false) c.len-count.result)
 
 pub returns-clause-reached : goal.returns-clause-reached
 returns-clause-reached c q has =
-    let listed = subst (λ ids. Has ids q) (c.from_vec.ensures ∙ c.in_ok-marked.ensures) has in
+    let listed = subst (λ ids. Has ids q) (c.from_vec.ensures ∙ c.in_ok-marked_services.ensures) has in
     c.loop-step.invariant.sound q (marked-Has (λ p. get_or c.loop-step.marks p false) c.len-count.result q listed)
 
 pub returns-clause-all : goal.returns-clause-all
@@ -43,4 +43,4 @@ returns-clause-all c q reach =
     let steps : c.loop-step.step ≡ length ids = omega (arith, c.loop-step-test.false, c.loop-step.auto.step-end) in
     let marked = subst (λ step. Marked rows ids c.args.id step c.loop-step.marks) steps c.loop-step.invariant in
     let there = marked-reached rows ids c.args.id c.loop-step.marks c.len-count.ensures.book c.requires marked q reach in
-    rw (c.from_vec.ensures, c.in_ok-marked.ensures) (Has-marked (λ p. get_or c.loop-step.marks p false) c.len-count.result q (omega (arith, there.1, c.len-count.ensures.len)) there.0)
+    rw (c.from_vec.ensures, c.in_ok-marked_services.ensures) (Has-marked (λ p. get_or c.loop-step.marks p false) c.len-count.result q (omega (arith, there.1, c.len-count.ensures.len)) there.0)

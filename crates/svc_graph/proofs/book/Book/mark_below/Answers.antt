@@ -1,6 +1,6 @@
 use Rattle.std.proofs.Common.{◌∙◌, get_or, subst, arith}
 use Rattle.propagation.specs.History.{now}
-use Rattle.propagation.specs.Words.{Has}
+use Rattle.propagation.specs.Lists.{Has}
 use Rattle.svc_graph.proofs.Lists.{get_or-Has}
 use Rattle.svc_graph.proofs.Theory.{AreBelow-deps}
 use Rattle.svc_graph.specs.History.{theory}

@@ -5,7 +5,7 @@ use Rattle.svc_graph.proofs.Rewinding.{bytes_of-take, columns-cut, rows-cut}
 use Rattle.svc_graph.proofs.book.Book.rewind.Goals as goal
 use Rattle.svc_graph.specs.Book.{IsBook}
 use Rattle.svc_graph.specs.Columns.{bytes_of}
-use Rattle.svc_graph.specs.Rewound.{rewound, shortened}
+use Rattle.svc_graph.specs.Rewound.{rewound_rows, shortened}
 
 pub invariant_of-self : goal.invariant_of-self
 invariant_of-self c =
@@ -15,7 +15,7 @@ invariant_of-self c =
     c.truncate-2.ensures.items
     (c.shorten.ensures ∙ ap (λ hs. shortened hs c.args.clocks.now) (c.as_mut_slice.ensures.value ∙ c.truncate-3.ensures.items))
     (with_items_is c.truncate-3.new.self c.shorten.new.histories (c.shorten.auto.histories ∙ c.as_mut_slice.ensures.len))
-    (subst (λ rs. IsBook (rewound rs c.args.clocks.now)) (sym c.self.view_is) c.requires)
+    (subst (λ rs. IsBook (rewound_rows rs c.args.clocks.now)) (sym c.self.view_is) c.requires)
 
 pub returns : goal.returns
 returns c =
@@ -25,4 +25,4 @@ returns c =
     c.truncate-2.ensures.items
     (c.shorten.ensures ∙ ap (λ hs. shortened hs c.args.clocks.now) (c.as_mut_slice.ensures.value ∙ c.truncate-3.ensures.items))
     (with_items_is c.truncate-3.new.self c.shorten.new.histories (c.shorten.auto.histories ∙ c.as_mut_slice.ensures.len))
-    ∙ ap (λ rs. rewound rs c.args.clocks.now) c.self.view_is
+    ∙ ap (λ rs. rewound_rows rs c.args.clocks.now) c.self.view_is

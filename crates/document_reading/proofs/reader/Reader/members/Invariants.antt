@@ -1,6 +1,0 @@
-use Rattle.std.proofs.Common.{take}
-use Rattle.document_reading.proofs.NumberLemmas.{AreNumbers}
-use Rattle.document_reading.proofs.reader.Reader.members.Given as goal
-
-abbrev pub invariant-loop-name : goal.invariant-loop-name
-invariant-loop-name l = AreNumbers l.self.book (take l.name-index l.names) l.ids
