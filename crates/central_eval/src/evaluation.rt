@@ -8,6 +8,7 @@ ghost use Rattle.central_eval.specs.Values.{value_at, value_by};
 use std::alloc::{AllocError, Global};
 use svc_expr::eval;
 use svc_graph::{Book, DefinitionRef};
+use svc_value::limits::MAX_DEPENDENCIES;
 use svc_value::{Fault, OutOfMemory, ServiceId, Value};
 
 // The place of a service among all.
@@ -46,7 +47,7 @@ fn value_by(
     definition: DefinitionRef<'_>,
     values: &[Value],
 ) -> Result<Value, OutOfMemory>
-    requires few { length (dependencies (definition_lent definition)) ≤ 16 }
+    requires few { length (dependencies (definition_lent definition)) ≤ MAX_DEPENDENCIES }
     requires below { All (λ p. p < length values.now) (dependencies (definition_lent definition)) }
     ensures { IfOk result (λ value. value ≡ value_by (definition_lent definition.entry) values.now) }
 {
@@ -67,7 +68,7 @@ pub(crate) fn put_value(
     id: ServiceId,
     values: &mut Vec<Value>,
 ) -> Result<(), OutOfMemory>
-    requires few { length (dependencies (definition_lent definition)) ≤ 16 }
+    requires few { length (dependencies (definition_lent definition)) ≤ MAX_DEPENDENCIES }
     requires below { All (λ p. p < length values.old.items) (dependencies (definition_lent definition)) }
     requires place { id < length values.old.items }
     ensures { OnOk result (values.new.items ≡ slice_set values.old.items id (value_by (definition_lent definition.entry) values.old.items)) }

@@ -40,8 +40,8 @@ pub(crate) fn are_in_time(book: &Book, stamps: &Stamps) -> bool
 
 // The mark of one service.
 fn one_mark(id: ServiceId) -> [bool; MAX_SERVICES]
-    requires { id < 64 }
-    ensures len { length result ≡ 64 }
+    requires { id < MAX_SERVICES }
+    ensures len { length result ≡ MAX_SERVICES }
     ensures mark { (q : ℕ) → slice_index_or result q false ≡ (q == id) }
 {
     let mut marks = [false; MAX_SERVICES];
@@ -63,7 +63,7 @@ fn mark_all(marks: &mut [bool], ids: &[ServiceId])
 fn mark_below(book: &Book, reader: ServiceId, clock: usize, marks: &mut [bool])
     requires declared { reader < length book.now }
     requires book { IsBook book.now }
-    requires room { length marks.old ≡ 64 }
+    requires room { length marks.old ≡ MAX_SERVICES }
     ensures { (q : ℕ) → slice_index_or marks.new q false ≡ (slice_index_or marks.old q false || is_among (deps (theory book.now) reader clock) q) }
 {
     if let Some(DefinitionRef::Derived(formula)) = book.history(reader).at(clock) {

@@ -5,6 +5,7 @@ use Rattle.std.specs.Cmp.Lexicographic.{pointwise}
 use Rattle.command_words.specs.declared.command.Command.{Command}
 use Rattle.command_words.specs.declared.command.Command.TheVariants.{Step, Check, Central, Frames, Make}
 use Rattle.command_words.specs.declared.size.Size.{Size}
+use Rattle.svc_value.specs.declared.limits.TheConstants.{MAX_CHANGES, MAX_SERVICES}
 
 -- ---- numbers
 
@@ -24,7 +25,7 @@ number_value (first ∷ second ∷ digits) = if first == 48 then None else numbe
 
 -- from 2 to 64 services, from so many to 1,024 changes, and a start of at most 65,536
 abbrev pub is_size : ℕ → ℕ → ℕ → Bool
-is_size services changes start = nat_le 2 services && (nat_le services 64 && (nat_le services changes && (nat_le changes 1024 && nat_le start 65536)))
+is_size services changes start = nat_le 2 services && (nat_le services MAX_SERVICES && (nat_le services changes && (nat_le changes MAX_CHANGES && nat_le start 65536)))
 
 -- the size of these numbers, if they are one
 abbrev pub size_of : Option ℕ → Option ℕ → Option ℕ → Option Size
@@ -35,9 +36,9 @@ size_of services changes start = None
 -- the same of a size
 pub record IsSize (size : Size) : Type 0 where
   pub some : 2 ≤ size.services
-  pub most : size.services ≤ 64
+  pub most : size.services ≤ MAX_SERVICES
   pub births : size.services ≤ size.changes
-  pub changes : size.changes ≤ 1024
+  pub changes : size.changes ≤ MAX_CHANGES
   pub start : size.start ≤ 65536
 
 -- ---- commands

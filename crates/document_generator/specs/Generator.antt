@@ -3,6 +3,7 @@ use Rattle.std.specs.Prelude.{ℕ, zero, suc, pos, ◌+◌, ◌-◌, ◌*◌, �
 use Rattle.propagation.specs.Lists.{is_among}
 use Rattle.svc_value.specs.declared.value.Value.TheVariants.{Int}
 use Rattle.svc_value.specs.Printed.{printed_value}
+use Rattle.svc_value.specs.declared.limits.TheConstants.{MAX_DEPENDENCIES}
 
 -- ---- draws
 
@@ -102,7 +103,7 @@ with_set k x draft = with_line x (set_line k (x % 1000)) draft
 abbrev pub with_turn : ℕ → ℕ → ℕ → ℕ → Draft → Draft
 with_turn inputs n q x draft =
     if is_among (members_at draft n) q then with_line x (drop_line inputs (n + 1) q) (with_members n (filter (λ p. not (p == q)) (members_at draft n)) draft)
-    else (if nat_lt (length (members_at draft n)) 16 then with_line x (add_line inputs (n + 1) q) (with_members n (members_at draft n ++ q ∷ []) draft)
+    else (if nat_lt (length (members_at draft n)) MAX_DEPENDENCIES then with_line x (add_line inputs (n + 1) q) (with_members n (members_at draft n ++ q ∷ []) draft)
     else with_set 1 (next_draw x) draft)
 
 -- a service is drawn below those before derived service n, from 0, which takes its turn; x is that before the draw

@@ -7,6 +7,7 @@ use crate::members::{MAX_DEPENDENCIES, Members};
 use std::alloc::Global;
 use std::marker::Model;
 use svc_value::OutOfMemory;
+use svc_value::limits::MAX_SERVICES;
 
 /// The number x, the members of each derived service and the text so far.
 #[derive(Drop)]
@@ -63,7 +64,7 @@ impl Draft {
     /// Adds derived service n.
     pub fn add_derived(&mut self, inputs: u16, n: u16) -> Result<(), OutOfMemory>
         requires some { 0 < inputs }
-        requires most { inputs + n < 64 }
+        requires most { inputs + n < MAX_SERVICES }
         ensures { OnOk result (self.new ≡ with_derived inputs n self.old) }
     {
         let p = self.draw(inputs + n);
@@ -84,8 +85,8 @@ impl Draft {
     // Service q goes, comes, or leaves its turn to the first input.
     fn turn(&mut self, inputs: u16, n: u16, q: u16) -> Result<(), OutOfMemory>
         requires place { n < length self.old.members }
-        requires number { n < 64 }
-        requires member { q < 64 }
+        requires number { n < MAX_SERVICES }
+        requires member { q < MAX_SERVICES }
         ensures { OnOk result (self.new ≡ with_turn inputs n q self.old.x self.old) }
     {
         let members = &mut self.members[usize::from(n)];
@@ -104,7 +105,7 @@ impl Draft {
     fn change_member(&mut self, inputs: u16, n: u16) -> Result<(), OutOfMemory>
         requires place { n < length self.old.members }
         requires some { 0 < inputs }
-        requires most { inputs + n < 64 }
+        requires most { inputs + n < MAX_SERVICES }
         ensures { OnOk result (self.new ≡ with_drawn_member inputs n self.old.x self.old) }
     {
         let q = self.draw(inputs + n);
@@ -114,7 +115,7 @@ impl Draft {
     // Draws an input and its value.
     fn change_input(&mut self, inputs: u16) -> Result<(), OutOfMemory>
         requires some { 0 < inputs }
-        requires most { inputs < 64 }
+        requires most { inputs < MAX_SERVICES }
         ensures { OnOk result (self.new ≡ with_new_value inputs self.old.x self.old) }
     {
         let k = self.draw(inputs) + 1;
@@ -125,7 +126,7 @@ impl Draft {
     fn change_derived(&mut self, inputs: u16, services: u16) -> Result<(), OutOfMemory>
         requires some { 0 < inputs }
         requires derived { inputs < services }
-        requires most { services ≤ 64 }
+        requires most { services ≤ MAX_SERVICES }
         requires members { length self.old.members ≡ services - inputs }
         ensures { OnOk result (self.new ≡ with_new_members inputs services self.old.x self.old) }
     {
@@ -137,7 +138,7 @@ impl Draft {
     pub fn add_change(&mut self, inputs: u16, services: u16) -> Result<(), OutOfMemory>
         requires some { 0 < inputs }
         requires derived { inputs < services }
-        requires most { services ≤ 64 }
+        requires most { services ≤ MAX_SERVICES }
         requires members { length self.old.members ≡ services - inputs }
         ensures { OnOk result (self.new ≡ with_change inputs services self.old) }
     {

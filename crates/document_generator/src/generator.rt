@@ -7,6 +7,7 @@ ghost use Rattle.document_generator.specs.Generator.{inputs_of, generated};
 use crate::draft::Draft;
 use std::alloc::Global;
 use svc_value::OutOfMemory;
+use svc_value::limits::{MAX_CHANGES, MAX_SERVICES};
 
 // How many of the services are inputs.
 fn inputs_of(services: u16) -> u16
@@ -24,9 +25,9 @@ pub fn make_document(
     start: u32,
 ) -> Result<Vec<u8>, OutOfMemory>
     requires some { 2 ≤ services }
-    requires most { services ≤ 64 }
+    requires most { services ≤ MAX_SERVICES }
     requires births { services ≤ changes }
-    requires changes { changes ≤ 1024 }
+    requires changes { changes ≤ MAX_CHANGES }
     requires start { start ≤ 65536 }
     ensures { IfOk result (λ text. text.items ≡ generated services changes start) }
 {
@@ -46,5 +47,5 @@ pub fn make_document(
 
 /// The document of the generator is accepted, whatever the start.
 pub fn made_is_accepted()
-    ensures { (services changes start : ℕ) → 2 ≤ services → services ≤ 64 → services ≤ changes → changes ≤ 1024 → IsAccepted Plain (generated services changes start) }
+    ensures { (services changes start : ℕ) → 2 ≤ services → services ≤ MAX_SERVICES → services ≤ changes → changes ≤ MAX_CHANGES → IsAccepted Plain (generated services changes start) }
 {}

@@ -2,6 +2,7 @@
 ghost use Rattle.std.specs.Prelude.{◌≡◌, ◌<◌, ◌≤◌, ◌+◌, ◌++◌, codes, OnOk};
 ghost use Rattle.document_generator.specs.Generator.{number_text, input_name, derived_name, service_name, pair_text, input_line, derived_head, derived_line, set_line, add_line, drop_line};
 
+use svc_value::limits::MAX_SERVICES;
 use svc_value::{OutOfMemory, Value, print_value};
 
 // Appends a number.
@@ -29,7 +30,7 @@ fn write_derived_name(out: &mut Vec<u8>, j: u16) -> Result<(), OutOfMemory>
 
 // Appends the name of service n.
 fn write_service_name(out: &mut Vec<u8>, inputs: u16, n: u16) -> Result<(), OutOfMemory>
-    requires { n < 64 }
+    requires { n < MAX_SERVICES }
     ensures { OnOk result (out.new.items ≡ out.old.items ++ service_name inputs n) }
 {
     if n < inputs {
@@ -41,8 +42,8 @@ fn write_service_name(out: &mut Vec<u8>, inputs: u16, n: u16) -> Result<(), OutO
 
 // Appends the names of two members, or one where both are the same.
 fn write_pair(out: &mut Vec<u8>, inputs: u16, p: u16, q: u16) -> Result<(), OutOfMemory>
-    requires p { p < 64 }
-    requires q { q < 64 }
+    requires p { p < MAX_SERVICES }
+    requires q { q < MAX_SERVICES }
     ensures { OnOk result (out.new.items ≡ out.old.items ++ pair_text inputs p q) }
 {
     write_service_name(out, inputs, p)?;
@@ -83,8 +84,8 @@ pub fn write_derived(
     p: u16,
     q: u16,
 ) -> Result<(), OutOfMemory>
-    requires p { p < 64 }
-    requires q { q < 64 }
+    requires p { p < MAX_SERVICES }
+    requires q { q < MAX_SERVICES }
     ensures { OnOk result (out.new.items ≡ out.old.items ++ (derived_line inputs j p q ++ codes "\n")) }
 {
     write_head(out, j)?;
@@ -108,7 +109,7 @@ pub fn write_set(out: &mut Vec<u8>, k: u16, value: u16) -> Result<(), OutOfMemor
 
 /// Appends the line that gives the j-th derived service a member.
 pub fn write_add(out: &mut Vec<u8>, inputs: u16, j: u16, q: u16) -> Result<(), OutOfMemory>
-    requires { q < 64 }
+    requires { q < MAX_SERVICES }
     ensures { OnOk result (out.new.items ≡ out.old.items ++ (add_line inputs j q ++ codes "\n")) }
 {
     out.extend_from_slice(b"add ")?;
@@ -121,7 +122,7 @@ pub fn write_add(out: &mut Vec<u8>, inputs: u16, j: u16, q: u16) -> Result<(), O
 
 /// Appends the line that takes a member of the j-th derived service.
 pub fn write_drop(out: &mut Vec<u8>, inputs: u16, j: u16, q: u16) -> Result<(), OutOfMemory>
-    requires { q < 64 }
+    requires { q < MAX_SERVICES }
     ensures { OnOk result (out.new.items ≡ out.old.items ++ (drop_line inputs j q ++ codes "\n")) }
 {
     out.extend_from_slice(b"drop ")?;

@@ -4,10 +4,8 @@ ghost use Rattle.propagation.specs.Lists.{is_among};
 
 use std::alloc::Global;
 use std::marker::Model;
+pub use svc_value::limits::MAX_DEPENDENCIES;
 use svc_value::{OutOfMemory, ServiceId};
-
-/// The most members of a generated service.
-pub const MAX_DEPENDENCIES: usize = 16;
 
 /// The members of one generated service, by number. Contracts see them as the list.
 #[derive(Drop)]

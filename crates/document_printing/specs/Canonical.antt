@@ -19,6 +19,7 @@ use Rattle.svc_value.specs.Printed.{printed_value}
 use Rattle.svc_value.specs.declared.value.Value.TheVariants as value
 use Rattle.svc_value.specs.declared.value.ValueType.{ValueType}
 use Rattle.svc_value.specs.declared.value.ValueType.TheVariants as type
+use Rattle.svc_value.specs.declared.limits.TheConstants.{MAX_DOCUMENT_LEN, MAX_LINE_LEN}
 
 -- ---- services
 
@@ -107,7 +108,7 @@ IsPrintable count change = (change.id < count) × HasNames change.change
 -- each line is within the limit of a line
 abbrev pub AreShort : List (List ℕ) → Type 0
 AreShort [] = Unit {0}
-AreShort (line ∷ lines) = (length line ≤ 4096) × AreShort lines
+AreShort (line ∷ lines) = (length line ≤ MAX_LINE_LEN) × AreShort lines
 
 -- what a leg says but for the numbers of its step lines
 abbrev pub said_by : Leg → List ServiceLine × List PlanChange × List StepEvent
@@ -115,7 +116,7 @@ said_by leg = (leg.services, leg.changes, map (λ (x : StepLine). x.event) leg.s
 
 -- the canonical document of legs is within the limits of bytes and lines
 pub record IsWithinLimits (legs : List Leg) : Type 0 where
-  pub bytes : length (canonical_text legs) ≤ 1048576
+  pub bytes : length (canonical_text legs) ≤ MAX_DOCUMENT_LEN
   pub lines : AreShort (flat_map (leg_lines (services_of legs)) legs)
 
 -- these legs are those of the canonical document, and say the same but for the numbers of their step lines

@@ -11,6 +11,7 @@ use Rattle.document_reading.specs.declared.statement.Statement.{Statement}
 use Rattle.document_reading.specs.Grammar.{Says}
 use Rattle.document_reading.specs.Refusals.{refusal}
 use Rattle.document_reading.specs.State.{State, start, next, legs_in}
+use Rattle.svc_value.specs.declared.limits.TheConstants.{MAX_DOCUMENT_LEN, MAX_LINE_LEN}
 
 -- ---- lines
 
@@ -26,7 +27,7 @@ lines_of (b ∷ bytes) = if b == 10 then [] ∷ lines_of bytes else before_first
 
 -- a line of at most 4,096 bytes of UTF-8 that says this
 pub record IsLine (line : List ℕ) (statement : Statement) : Type 0 where
-  pub short : length line ≤ 4096
+  pub short : length line ≤ MAX_LINE_LEN
   pub text : IsUtf8 line
   pub says : Says line statement
 
@@ -37,9 +38,9 @@ pub record AcceptsLine (mode : Mode) (state : State) (line : List ℕ) (statemen
 
 -- the line says nothing: it is too long, not UTF-8 or not in the grammar, whatever stands before it
 pub data IsUnread (line : List ℕ) : Code → Type 0 where
-  long : 4096 < length line → IsUnread line E02
-  other_bytes : length line ≤ 4096 → (IsUtf8 line → ⊥) → IsUnread line E03
-  other_words : length line ≤ 4096 → IsUtf8 line → ((statement : Statement) → Says line statement → ⊥) → IsUnread line E04
+  long : MAX_LINE_LEN < length line → IsUnread line E02
+  other_bytes : length line ≤ MAX_LINE_LEN → (IsUtf8 line → ⊥) → IsUnread line E03
+  other_words : length line ≤ MAX_LINE_LEN → IsUtf8 line → ((statement : Statement) → Says line statement → ⊥) → IsUnread line E04
 
 -- the line is refused in this state, with the lowest-numbered code whose condition holds
 pub data RefusesLine (mode : Mode) (state : State) (line : List ℕ) : Code → Type 0 where
@@ -56,7 +57,7 @@ pub data Reads (mode : Mode) : State → List (List ℕ) → State → Type 0 wh
 
 -- the document is accepted where these are the rows and so many legs have ended, and leads to this state
 pub record IsDocumentAfter (rows : List Row) (before : ℕ) (mode : Mode) (bytes : List ℕ) (last : State) : Type 0 where
-  pub short : length bytes ≤ 1048576
+  pub short : length bytes ≤ MAX_DOCUMENT_LEN
   pub lines : Reads mode (start rows before) (lines_of bytes) last
 
 -- it is accepted there, and these are its legs
@@ -81,8 +82,8 @@ pub record IsFirstRefused (rows : List Row) (before : ℕ) (mode : Mode) (bytes 
 -- the refusal of a document that is not accepted there
 abbrev pub IsRefusalAfter : List Row → ℕ → Mode → List ℕ → Refusal → Type 0
 IsRefusalAfter rows before mode bytes refused =
-    ((1048576 < length bytes) × (refused ≡ record { line = 0; code = E01 }))
-    ⊎ ((length bytes ≤ 1048576) × IsFirstRefused rows before mode bytes refused.line refused.code)
+    ((MAX_DOCUMENT_LEN < length bytes) × (refused ≡ record { line = 0; code = E01 }))
+    ⊎ ((length bytes ≤ MAX_DOCUMENT_LEN) × IsFirstRefused rows before mode bytes refused.line refused.code)
 
 -- ---- before any service
 

@@ -18,6 +18,7 @@ use Rattle.document_reading.specs.declared.line_error.LineError.TheVariants.{Ref
 use Rattle.document_reading.specs.declared.statement.Statement.{Statement}
 use Rattle.document_reading.specs.Document.{AcceptsLine}
 use Rattle.document_reading.specs.State.{State, next}
+use Rattle.svc_value.specs.declared.limits.TheConstants.{MAX_CHANGES, MAX_LEGS, MAX_RANK, MAX_SERVICES}
 
 -- what a parser keeps
 abbrev pub state : Parser → State
@@ -61,11 +62,11 @@ pub record TakesLine (mode : Mode) (old : State) (line : List ℕ) (new : State)
 
 -- a name that is declared, or no room for a service
 abbrev pub name_code : List Row → List ℕ → Option Code
-name_code rows name = if is_some (find_service rows name) then Some E05 else code_where (nat_le 64 (length rows)) E06
+name_code rows name = if is_some (find_service rows name) then Some E05 else code_where (nat_le MAX_SERVICES (length rows)) E06
 
 -- a rank that is not from 1 to 1000
 abbrev pub rank_code : ℕ → Option Code
-rank_code rank = code_where (nat_lt rank 1 || nat_lt 1000 rank) E07
+rank_code rank = code_where (nat_lt rank 1 || nat_lt MAX_RANK rank) E07
 
 -- ---- changes
 
@@ -88,7 +89,7 @@ code_or (Some error) other = code_of error
 
 -- no room in the leg or for a leg more
 abbrev pub full_code : ℕ → ℕ → Option Code
-full_code changes legs = if nat_le 1024 changes then Some E17 else (if nat_le 1000 legs then Some E19 else None)
+full_code changes legs = if nat_le MAX_CHANGES changes then Some E17 else (if nat_le MAX_LEGS legs then Some E19 else None)
 
 -- why a change is refused, if it is
 abbrev pub change_code : State → ℕ → Change → Option Code
@@ -115,7 +116,7 @@ with_service state line = record state {
 -- why a step line is refused whose names are declared, if it is
 abbrev pub step_code : Mode → State → Option Code
 step_code mode.Plain state = Some E18
-step_code mode.Step state = code_where (nat_le 1000 (state.before + length state.ended)) E19
+step_code mode.Step state = code_where (nat_le MAX_LEGS (state.before + length state.ended)) E19
 
 -- after a step line more
 abbrev pub with_step : State → StepEvent → State

@@ -16,6 +16,7 @@ use Rattle.document_reading.specs.declared.statement.Body.TheVariants.{Formula, 
 use Rattle.document_reading.specs.declared.statement.Statement.{Statement}
 use Rattle.document_reading.specs.declared.statement.Statement.TheVariants.{Silence, Derived, Set, Add, Drop, Define, Do, Take, Turn}
 use Rattle.document_reading.specs.State.{State, declares, changes, steps}
+use Rattle.svc_value.specs.declared.limits.TheConstants.{MAX_CHANGES, MAX_LEGS, MAX_RANK, MAX_SERVICES}
 
 -- ---- names
 
@@ -48,11 +49,11 @@ is_taken rows statement = list_any (λ line. is_some (find_service rows line.nam
 
 -- it declares a service where 64 are declared
 abbrev pub is_past_services : List Row → Statement → Bool
-is_past_services rows statement = nat_lt 0 (length (declares statement)) && nat_le 64 (length rows)
+is_past_services rows statement = nat_lt 0 (length (declares statement)) && nat_le MAX_SERVICES (length rows)
 
 -- the declared rank is not from 1 to 1000
 abbrev pub has_wrong_rank : Statement → Bool
-has_wrong_rank (Derived name ty rank body) = nat_lt rank 1 || nat_lt 1000 rank
+has_wrong_rank (Derived name ty rank body) = nat_lt rank 1 || nat_lt MAX_RANK rank
 has_wrong_rank statement = false
 
 -- its expression has more than 128 nodes or a depth above 32
@@ -69,7 +70,7 @@ is_tested test rows statement =
 
 -- it makes a change, and the leg has 1,024
 abbrev pub is_past_changes : State → Statement → Bool
-is_past_changes state statement = nat_lt 0 (length (declares statement) + length (changes state.rows statement)) && nat_le 1024 (length state.open_leg.changes)
+is_past_changes state statement = nat_lt 0 (length (declares statement) + length (changes state.rows statement)) && nat_le MAX_CHANGES (length state.open_leg.changes)
 
 -- it is a step line, which this mode has not
 abbrev pub is_out_of_mode : Mode → State → Statement → Bool
@@ -79,7 +80,7 @@ is_out_of_mode mode.Step state statement = false
 -- it says something, and 1,000 legs have ended
 abbrev pub is_past_legs : State → Statement → Bool
 is_past_legs state Silence = false
-is_past_legs state statement = nat_le 1000 (state.before + length state.ended)
+is_past_legs state statement = nat_le MAX_LEGS (state.before + length state.ended)
 
 -- ---- the conditions
 

@@ -12,6 +12,7 @@ use Rattle.document_reading.specs.declared.statement.NamedFormula.{NamedFormula}
 use Rattle.document_reading.specs.declared.statement.Statement.{Statement}
 use Rattle.document_reading.specs.declared.statement.Statement.TheVariants.{Input, Derived, Set, Define}
 use Rattle.document_reading.specs.State.{State, start}
+use Rattle.svc_value.specs.declared.limits.TheConstants.{MAX_CLOCK, MAX_DOCUMENT_LEN, MAX_LEGS}
 
 -- the expression is within its limits, and its names are all different, one for each number in it
 pub record IsNamedFormula (formula : NamedFormula) : Type 0 where
@@ -38,10 +39,10 @@ pub record IsStart (state : State) : Type 0 where
   pub begins : state ≡ start state.rows state.before
   pub born : (n : ℕ) → n < length state.rows → history_of state.rows n ≢ []
   pub clocks : (n : ℕ) → length (history_of state.rows n) ≤ 1
-  pub legs : state.before ≤ 1000
+  pub legs : state.before ≤ MAX_LEGS
 
 -- between lines: every service has a definition, and no number is near its limit
 pub record IsSound (state : State) : Type 0 where
   pub born : (n : ℕ) → n < length state.rows → history_of state.rows n ≢ []
-  pub clocks : (n : ℕ) → length (history_of state.rows n) < 1024000
-  pub lines : state.lines ≤ 1048576
+  pub clocks : (n : ℕ) → length (history_of state.rows n) < MAX_CLOCK
+  pub lines : state.lines ≤ MAX_DOCUMENT_LEN

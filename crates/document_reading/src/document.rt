@@ -21,9 +21,8 @@ use svc_graph::Book;
 use svc_plan::{Mode, Plan};
 use svc_token::Token;
 use svc_value::OutOfMemory;
-
-/// The most bytes of a document.
-pub const MAX_DOCUMENT_LEN: usize = 1_048_576;
+pub use svc_value::limits::MAX_DOCUMENT_LEN;
+use svc_value::limits::MAX_LEGS;
 
 // The answer to a document whose line with this number ends the reading.
 fn error_at(stop: LineError, line: u32) -> DocError
@@ -37,7 +36,7 @@ fn error_at(stop: LineError, line: u32) -> DocError
 
 // Reads all lines.
 fn read_lines(alloc: Global, mut parser: Parser, bytes: &[u8]) -> Result<Parser, DocError>
-    requires short { length bytes.now ≤ 1048576 }
+    requires short { length bytes.now ≤ MAX_DOCUMENT_LEN }
     requires start { IsStart (state parser) }
     ensures read { IfOk result (λ end. Reads parser.mode (state parser) (lines_of bytes.now) (state end)) }
     ensures refused { IfErr result (λ e. (refusal : Refusal) → e ≡ DocError.Refused refusal → IsRefusalAfter parser.book parser.before parser.mode bytes.now refusal) }
@@ -67,7 +66,7 @@ fn read_from(
     requires { IsStart (start book ended) }
     ensures plan { IfOk result (λ plan. HasLegsAfter book ended mode bytes.now plan.legs) }
     ensures legs { IfOk result (λ plan. AreLegsAfter book plan.legs) }
-    ensures few { IfOk result (λ plan. ended + length plan.legs ≤ 1000) }
+    ensures few { IfOk result (λ plan. ended + length plan.legs ≤ MAX_LEGS) }
     ensures refused { IfErr result (λ e. (refusal : Refusal) → e ≡ DocError.Refused refusal → IsRefusalAfter book ended mode bytes.now refusal) }
     ensures not_accepted { IfErr result (λ e. (refusal : Refusal) → e ≡ DocError.Refused refusal → IsAcceptedAfter book ended mode bytes.now → ⊥) }
 {
@@ -90,7 +89,7 @@ fn read_from(
 pub fn read_document(alloc: Global, bytes: &[u8], mode: Mode) -> Result<Plan, DocError>
     ensures plan { IfOk result (λ plan. HasLegs mode bytes.now plan.legs) }
     ensures legs { IfOk result (λ plan. AreLegsAfter [] plan.legs) }
-    ensures few { IfOk result (λ plan. length plan.legs ≤ 1000) }
+    ensures few { IfOk result (λ plan. length plan.legs ≤ MAX_LEGS) }
 
     // It comes exactly for what is not accepted.
     ensures refused { IfErr result (λ e. (refusal : Refusal) → e ≡ DocError.Refused refusal → IsRefusal mode bytes.now refusal) }
@@ -108,11 +107,11 @@ pub fn read_document_after(
     book: &Book,
     ended: u32,
 ) -> Result<Plan, DocError>
-    requires ended { ended ≤ 1000 }
+    requires ended { ended ≤ MAX_LEGS }
     requires born { AreBorn book.now }
     ensures plan { IfOk result (λ plan. HasLegsAfter (present_rows book.now) ended mode bytes.now plan.legs) }
     ensures legs { IfOk result (λ plan. AreLegsAfter (present_rows book.now) plan.legs) }
-    ensures few { IfOk result (λ plan. ended + length plan.legs ≤ 1000) }
+    ensures few { IfOk result (λ plan. ended + length plan.legs ≤ MAX_LEGS) }
 
     // It comes exactly for what is not accepted.
     ensures refused { IfErr result (λ e. (refusal : Refusal) → e ≡ DocError.Refused refusal → IsRefusalAfter (present_rows book.now) ended mode bytes.now refusal) }

@@ -14,9 +14,7 @@ use crate::statement::Statement;
 use std::alloc::Global;
 use std::str;
 use svc_token::{CutError, Token, cut, is_blank};
-
-/// The most bytes of a line, without its LF.
-pub const MAX_LINE_LEN: usize = 4096;
+pub use svc_value::limits::MAX_LINE_LEN;
 
 // How many bytes stand before the first LF.
 fn line_len(bytes: &[u8]) -> usize

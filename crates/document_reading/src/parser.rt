@@ -22,12 +22,8 @@ use svc_graph::Book;
 use svc_plan::{Leg, Mode, PlanChanges, PlanLegs, ServiceLines, StepLines};
 use svc_token::Token;
 use svc_value::OutOfMemory;
-
-/// The most changes of a leg.
-pub const MAX_CHANGES: usize = 1024;
-
-/// The most legs of a document.
-pub const MAX_LEGS: usize = 1000;
+use svc_value::limits::MAX_DOCUMENT_LEN;
+pub use svc_value::limits::{MAX_CHANGES, MAX_LEGS};
 
 /// What the lines so far leave for the next one: how many there were, the services, how many legs had ended before the first
 /// line, the legs that ended since, and what the open one says.
@@ -74,14 +70,14 @@ impl Parser {
 
     // Whether as many legs have ended as may.
     fn is_past_legs(&self) -> bool
-        ensures { result ≡ nat_le 1000 (self.now.before + length self.now.ended) }
+        ensures { result ≡ nat_le MAX_LEGS (self.now.before + length self.now.ended) }
     {
         (self.before as usize).saturating_add(self.ended.len()) >= MAX_LEGS
     }
 
     // A line that says nothing.
     fn silence(&mut self)
-        requires { self.old.lines ≤ 1048576 }
+        requires { self.old.lines ≤ MAX_DOCUMENT_LEN }
         ensures taken { state self.new ≡ next (state self.old) says.Silence }
         ensures mode { self.new.mode ≡ self.old.mode }
     {
@@ -90,7 +86,7 @@ impl Parser {
 
     // The end of a leg.
     fn settle(&mut self) -> Result<(), LineError>
-        requires { self.old.lines ≤ 1048576 }
+        requires { self.old.lines ≤ MAX_DOCUMENT_LEN }
         ensures answers { RefusesExactly result (refusal self.old.mode (state self.old) says.Settle) }
         ensures taken { OnOk result (state self.new ≡ next (state self.old) says.Settle) }
         ensures mode { OnOk result (self.new.mode ≡ self.old.mode) }

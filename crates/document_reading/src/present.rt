@@ -11,6 +11,7 @@ use std::alloc::Global;
 use svc_graph::{
     Book, Change, ChangeError, DeclareError, Definition, DefinitionRef, Formula, FormulaRef, Kind,
 };
+use svc_value::limits::{MAX_RANK, MAX_SERVICES};
 use svc_value::{Ids, OutOfMemory, ServiceId};
 
 // A copy of a formula.
@@ -49,8 +50,8 @@ fn last(alloc: Global, book: &Book, id: ServiceId) -> Result<Definition, OutOfMe
 // Declares a service that can be declared.
 fn declare(book: &mut Book, name: &str, kind: Kind) -> Result<(), OutOfMemory>
     requires new { find_service book.old name.now ≡ None }
-    requires room { length book.old < 64 }
-    requires rank { kind.rank ≤ 1000 }
+    requires room { length book.old < MAX_SERVICES }
+    requires rank { kind.rank ≤ MAX_RANK }
     ensures { OnOk result (book.new ≡ book.old ++ declared_row name.now kind.rank kind.ty ∷ []) }
 {
     match book.declare(name, kind.rank, kind.ty) {

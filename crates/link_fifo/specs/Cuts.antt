@@ -2,12 +2,13 @@
 use Rattle.std.specs.Prelude.{◌≡◌, ℕ, zero, suc, ◌-◌, List, [], ◌∷◌, ◌++◌, length, take, drop, All, flat_map}
 use Rattle.wire_frame.specs.Stream.{framed_item, items_of, IsItem}
 use Rattle.wire_frame.specs.Cut.{past}
+use Rattle.link_fifo.specs.declared.piece.TheConstants.{MAX_PIECE_LEN}
 
 -- a list cut after each 64 bytes, into at most so many pieces
 unfoldable pub cuts_in : ℕ → List ℕ → List (List ℕ)
 cuts_in zero bytes = []
 cuts_in (suc n) [] = []
-cuts_in (suc n) (byte ∷ bytes) = take 64 (byte ∷ bytes) ∷ cuts_in n (drop 64 (byte ∷ bytes))
+cuts_in (suc n) (byte ∷ bytes) = take MAX_PIECE_LEN (byte ∷ bytes) ∷ cuts_in n (drop MAX_PIECE_LEN (byte ∷ bytes))
 
 -- a list cut after each 64 bytes
 unfoldable pub cuts_of : List ℕ → List (List ℕ)

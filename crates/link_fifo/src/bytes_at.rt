@@ -3,10 +3,12 @@ ghost use Rattle.std.specs.Prelude.{◌≡◌, ◌+◌, ◌<◌, ◌≤◌, leng
 ghost use Rattle.wire_frame.specs.Stream.{framed_item};
 
 use crate::Piece;
+use crate::piece::MAX_PIECE_LEN;
+use svc_value::limits::MAX_FRAME_LEN;
 
 /// The byte at `at` of an item behind its length.
 pub(crate) fn byte_at(item: &[u8], at: usize) -> u8
-    requires fits { length item.now ≤ 585 }
+    requires fits { length item.now ≤ MAX_FRAME_LEN }
     requires within { at < length item.now + 2 }
     ensures { result ≡ slice_index (framed_item item.now) at }
 {
@@ -22,12 +24,12 @@ pub(crate) fn byte_at(item: &[u8], at: usize) -> u8
 
 // The piece that begins at `at` of an item behind its length, byte by byte.
 fn piece_from_length(item: &[u8], at: usize) -> Piece
-    requires fits { length item.now ≤ 585 }
+    requires fits { length item.now ≤ MAX_FRAME_LEN }
     requires within { at < length item.now + 2 }
-    ensures { result ≡ take 64 (drop at (framed_item item.now)) }
+    ensures { result ≡ take MAX_PIECE_LEN (drop at (framed_item item.now)) }
 {
-    let count = (item.len() + 2 - at).min(64);
-    let mut bytes = [0; 64];
+    let count = (item.len() + 2 - at).min(MAX_PIECE_LEN);
+    let mut bytes = [0; MAX_PIECE_LEN];
     for i in 0..count {
         bytes[i] = byte_at(item, at + i);
     }
@@ -36,9 +38,9 @@ fn piece_from_length(item: &[u8], at: usize) -> Piece
 
 /// The piece that begins at `at` of an item behind its length.
 pub(crate) fn piece_at(item: &[u8], at: usize) -> Piece
-    requires fits { length item.now ≤ 585 }
+    requires fits { length item.now ≤ MAX_FRAME_LEN }
     requires within { at < length item.now + 2 }
-    ensures { result ≡ take 64 (drop at (framed_item item.now)) }
+    ensures { result ≡ take MAX_PIECE_LEN (drop at (framed_item item.now)) }
 {
     if at < 2 {
         return piece_from_length(item, at);

@@ -1,16 +1,18 @@
 // An item of which a part was pushed.
+ghost use Rattle.svc_value.specs.declared.limits.TheConstants.{MAX_FRAME_LEN};
 ghost use Rattle.std.specs.Prelude.{◌≤◌, length};
 
 use crate::RingOut;
 use crate::push_from::push_from;
 use svc_value::Bytes;
+use svc_value::limits::MAX_FRAME_LEN;
 
 /// An item, and where the next piece begins in it behind its length.
 #[derive(Drop)]
 pub struct Kept {
     pub item: Bytes,
     pub at: usize,
-    ghost fits: { length item ≤ 585 },
+    ghost fits: { length item ≤ MAX_FRAME_LEN },
 }
 
 impl Kept {
@@ -22,7 +24,7 @@ impl Kept {
 
     /// All of an item.
     pub fn whole(item: Bytes) -> Kept
-        requires { length item ≤ 585 }
+        requires { length item ≤ MAX_FRAME_LEN }
         ensures left { left_of result ≡ framed_item item }
         ensures item { result.item ≡ item }
     {

@@ -10,7 +10,7 @@ pub const MAX_PIECE_LEN: usize = 64;
 #[derive(Clone, Copy)]
 pub struct Piece {
     len: usize,
-    bytes: [u8; 64],
+    bytes: [u8; MAX_PIECE_LEN],
 }
 
 impl Model for Piece {
@@ -35,7 +35,7 @@ impl Piece {
     /// The first 64 of `bytes`, or all where there are fewer; at least one is there.
     pub fn cut(bytes: &[u8]) -> Piece
         requires { 0 < length bytes.now }
-        ensures { result ≡ take 64 bytes.now }
+        ensures { result ≡ take MAX_PIECE_LEN bytes.now }
     {
         let len = bytes.len().min(MAX_PIECE_LEN);
         Piece {
@@ -48,7 +48,7 @@ impl Piece {
     pub fn as_slice(&self) -> &[u8]
         ensures bytes { result.now ≡ self.now }
         ensures some { 0 < length self.now }
-        ensures most { length self.now ≤ 64 }
+        ensures most { length self.now ≤ MAX_PIECE_LEN }
     {
         &self.bytes[..self.len]
     }

@@ -3,6 +3,7 @@ ghost use Rattle.std.specs.Prelude.{◌≡◌};
 ghost use Rattle.link_fifo.specs.Ring.{ring_received};
 ghost use Rattle.link_fifo.specs.Cuts.{IsRead, place_of};
 
+use crate::piece::MAX_PIECE_LEN;
 use crate::{ItemError, RingIn};
 use std::alloc::Global;
 use svc_value::{Bytes, OutOfMemory};
@@ -70,7 +71,7 @@ impl PieceIn {
         ensures grown { Grows (pieces_received self.old) (pieces_received self.new) }
         ensures ring { SameReader self.old self.new }
     {
-        self.cutter.reserve(64)?;
+        self.cutter.reserve(MAX_PIECE_LEN)?;
         match self.into.pop() {
             Some(piece) => {
                 self.cutter.feed(piece.as_slice());

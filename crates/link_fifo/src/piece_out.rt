@@ -6,6 +6,7 @@ ghost use Rattle.link_fifo.specs.Kept.{bytes_kept};
 use crate::RingOut;
 use crate::kept::Kept;
 use svc_value::Bytes;
+use svc_value::limits::MAX_FRAME_LEN;
 
 /// The end of a ring that takes items and sends them in pieces. It keeps what did not fit of the last item, and tells every item
 /// that it took, oldest first.
@@ -55,7 +56,7 @@ impl PieceOut {
     /// stays. Something is kept only where no slot is known to be free. No memory is taken.
     #[tactic(auto, using(crate::proofs::Grown::grows_twice))]
     pub fn push(&mut self, item: Bytes) -> Result<(), Bytes>
-        requires { length item ≤ 585 }
+        requires { length item ≤ MAX_FRAME_LEN }
         ensures appended { OnOk result (items_sent self.new ≡ items_sent self.old ++ item ∷ []) }
         ensures handed_back { IfErr result (λ back. back ≡ item) }
         ensures cut { pieces_sent self.new ++ cuts_of (kept_bytes self.new) ≡ pieces_of (items_sent self.new) }
@@ -75,7 +76,7 @@ impl PieceOut {
 
     // Takes an item, where nothing is kept.
     fn start(&mut self, item: Bytes)
-        requires fits { length item ≤ 585 }
+        requires fits { length item ≤ MAX_FRAME_LEN }
         requires none { kept_bytes self.old ≡ [] }
         ensures appended { items_sent self.new ≡ items_sent self.old ++ item ∷ [] }
         ensures moved { length (kept_bytes self.new) ≤ length item + 2 }

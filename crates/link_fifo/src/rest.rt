@@ -7,6 +7,7 @@ ghost use Rattle.link_fifo.specs.Ends.{items_sent, items_received, OneStream};
 
 use crate::bytes_at::piece_at;
 use crate::kept::Kept;
+use crate::piece::MAX_PIECE_LEN;
 use crate::{PieceIn, PieceOut};
 use std::alloc::Global;
 use svc_value::{Bytes, ListOf, OutOfMemory};
@@ -23,10 +24,10 @@ fn feed_kept(cutter: &mut Cutter, kept: &Kept) -> Result<(), OutOfMemory>
     let len = item.len() + 2;
     let mut at = kept.at;
     while at < len {
-        cutter.reserve(64)?;
+        cutter.reserve(MAX_PIECE_LEN)?;
         let piece = piece_at(item, at);
         cutter.feed(piece.as_slice());
-        at += 64;
+        at += MAX_PIECE_LEN;
     }
     Ok(())
 }

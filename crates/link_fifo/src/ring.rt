@@ -1,8 +1,10 @@
 // A ring between two threads.
+ghost use Rattle.link_fifo.specs.declared.ring.TheConstants.{RING_PIECES};
 ghost use Rattle.std.specs.Prelude.{◌≡◌, []};
 ghost use Rattle.rtrb.specs.Ring.{sent, received, known_free, IsPair};
 
 use crate::Piece;
+use crate::piece::MAX_PIECE_LEN;
 use rtrb::{Consumer, Producer, PushError, RingBuffer};
 use std::alloc::Global;
 use svc_value::OutOfMemory;
@@ -19,7 +21,7 @@ pub struct RingLink {
     ghost pair: { IsPair producer consumer },
     ghost unsent: { sent producer ≡ [] },
     ghost unread: { received consumer ≡ [] },
-    ghost free: { known_free producer ≡ 32 },
+    ghost free: { known_free producer ≡ RING_PIECES },
 }
 
 /// The end of a ring that pushes. It tells every piece that it sent.
@@ -49,7 +51,7 @@ impl RingLink {
         ensures pair { OneRing result.0 result.1 }
         ensures unsent { ring_sent result.0 ≡ [] }
         ensures unread { ring_received result.1 ≡ [] }
-        ensures room { ring_room result.0 ≡ 32 }
+        ensures room { ring_room result.0 ≡ RING_PIECES }
     {
         let RingLink { producer, consumer } = self;
         (RingOut { producer }, RingIn { consumer })
@@ -105,7 +107,7 @@ impl RingOut {
         let RingIn { mut consumer } = into;
         let count = consumer.slots_beside(&mut producer);
         for _ in 0..count {
-            cutter.reserve(64)?;
+            cutter.reserve(MAX_PIECE_LEN)?;
             let piece = consumer.pop_known();
             cutter.feed(piece.as_slice());
         }

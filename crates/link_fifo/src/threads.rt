@@ -6,6 +6,7 @@ use std::alloc::Global;
 use std::test::Fail;
 use std::thread;
 use svc_value::Bytes;
+use svc_value::limits::MAX_FRAME_LEN;
 
 const ITEMS: u32 = 100_000;
 
@@ -36,7 +37,7 @@ const NOTHING: Seen = Seen { items: 0, sum: 0 };
 
 // The item of this number: lengths from 0 to 585 take turns.
 fn item_of(alloc: Global, number: u32) -> Result<Bytes, svc_value::OutOfMemory>
-    ensures { IfOk result (λ item. length item ≤ 585) }
+    ensures { IfOk result (λ item. length item ≤ MAX_FRAME_LEN) }
 {
     let bytes = [(number % 251) as u8; 585];
     let len = ((number % 586) as usize).min(585);
@@ -45,7 +46,7 @@ fn item_of(alloc: Global, number: u32) -> Result<Bytes, svc_value::OutOfMemory>
 
 // Pushes one item, and says whether it was taken in time.
 fn push_one(out: &mut PieceOut, item: Bytes) -> bool
-    requires { length item ≤ 585 }
+    requires { length item ≤ MAX_FRAME_LEN }
 {
     let mut item = item;
     for _ in 0..LOOKS {

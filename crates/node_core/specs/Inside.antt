@@ -5,6 +5,7 @@ use Rattle.stamp_match.specs.Kept.{IsMatcherOf}
 use Rattle.node_core.specs.declared.node.Node.TheInside.{Inside}
 use Rattle.node_core.specs.Coming.{coming}
 use Rattle.node_core.specs.View.{NodeView, told_all, AreInOrder, AreCounted, AreWithin, IsDefined}
+use Rattle.svc_value.specs.declared.limits.TheConstants.{MAX_SERVICES}
 
 -- the service
 abbrev pub service_of : Inside → NodeView
@@ -31,7 +32,7 @@ service_of n = record {
 
 -- what its fields keep
 pub record IsNode (n : Inside) : Type 0 where
-  pub few : length n.roster ≤ 64
+  pub few : length n.roster ≤ MAX_SERVICES
   pub within : n.done ≤ length n.changes.items
   pub defined : IsDefined n.id n.own n.definition (coming n.definition (drop n.done n.changes.items))
   pub in_order : AreInOrder n.edges n.slots.items

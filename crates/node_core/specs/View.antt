@@ -15,6 +15,7 @@ use Rattle.node_core.specs.declared.entry.Entry.{Entry}
 use Rattle.node_core.specs.declared.entry.Entry.TheVariants.{Sent}
 use Rattle.node_core.specs.Entries.{Extends, sent_to}
 use Rattle.node_core.specs.Outbox.{waiting}
+use Rattle.svc_value.specs.declared.limits.TheConstants.{MAX_CLOCK, MAX_DEPENDENCIES, MAX_SERVICES}
 
 -- The log of a leg, oldest entry first; the frames that wait to be handed over, oldest first, each with its receiver; how many
 -- of the leg are handed over; and for how many entries and frames more there is room.
@@ -66,19 +67,19 @@ IsPosted entries outbox = (q : ℕ) → (gone : List (List ℕ)) × (sent_to q e
 -- the dependencies of the definition are few and differ
 pub record IsFew (definition : Definition) : Type 0 where
   pub apart : AreDistinct (dependencies definition)
-  pub few : length (dependencies definition) ≤ 16
+  pub few : length (dependencies definition) ≤ MAX_DEPENDENCIES
 
 -- The present definition and those to come are such, the number of the service fits stamps, and no clock is past its limit.
 pub record IsDefined (id own : ℕ) (current : Option Definition) (left : List Definition) : Type 0 where
   pub present : (d : Definition) → current ≡ Some d → IsFew d
   pub next : (d : Definition) → Has left d → IsFew d
-  pub number : 0 < own + length left → id < 64
-  pub clock : own + length left ≤ 1024000
+  pub number : 0 < own + length left → id < MAX_SERVICES
+  pub clock : own + length left ≤ MAX_CLOCK
   pub clocked : (d : Definition) → current ≡ Some d → 0 < own
 
 -- There are few edges, their epochs and those of the readers are at least 1, and the last emission has stamps.
 pub record AreWithin (edges present : List (ℕ × ℕ)) (last : Option (Emission Value)) : Type 0 where
-  pub few : length edges ≤ 16
+  pub few : length edges ≤ MAX_DEPENDENCIES
   pub edge_epochs : All (λ edge. 1 ≤ edge.1) edges
   pub reader_epochs : All (λ reader. 1 ≤ reader.1) present
   pub told : (m : Emission Value) → last ≡ Some m → 0 < length m.stamps

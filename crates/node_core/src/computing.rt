@@ -14,6 +14,7 @@ use std::alloc::Global;
 use std::mem;
 use svc_expr::eval;
 use svc_graph::Definition;
+use svc_value::limits::{MAX_DEPENDENCIES, MAX_SERVICES};
 use svc_value::{Clock, OutOfMemory, ServiceId, Value};
 
 // The values of the heads, in place of those in the list.
@@ -39,7 +40,7 @@ fn value_by(
     slots: &[Slot],
     values: &mut Vec<Value>,
 ) -> Result<Value, OutOfMemory>
-    requires few { length slots.now ≤ 16 }
+    requires few { length slots.now ≤ MAX_DEPENDENCIES }
     ensures { IfOk result (λ value. value ≡ meaning_of definition.now (map (λ head. head.value) (heads slots.now))) }
 {
     match definition {
@@ -61,7 +62,7 @@ fn union_of(
     slots: &[Slot],
     scratch: &mut Scratch,
 ) -> Result<Stamps, OutOfMemory>
-    requires below { id < 64 }
+    requires below { id < MAX_SERVICES }
     requires positive { 0 < own }
     ensures { IfOk result (λ stamps. stamps ≡ raise_all ((id, own) ∷ []) (heads slots.now)) }
 {
@@ -102,9 +103,9 @@ pub(crate) fn emission_over(
     slots: &[Slot],
     scratch: &mut Scratch,
 ) -> Result<Emission, OutOfMemory>
-    requires below { id < 64 }
+    requires below { id < MAX_SERVICES }
     requires positive { 0 < own }
-    requires few { length slots.now ≤ 16 }
+    requires few { length slots.now ≤ MAX_DEPENDENCIES }
     ensures emission { IfOk result (λ m. m ≡ emission_over id own definition.now slots.now) }
     ensures some { IfOk result (λ m. 0 < length m.stamps) }
 {

@@ -19,6 +19,7 @@ use crate::refusing::of_slot;
 use pred_queue::{Slot, SlotError};
 use std::alloc::Global;
 use svc_graph::Kind;
+use svc_value::limits::MAX_SERVICES;
 use svc_value::{Clock, ServiceId};
 use wire_frame::{AnnouncedRef, DeltaRef, FrameRef};
 
@@ -37,7 +38,7 @@ fn announce(
     announced: AnnouncedRef<'_>,
 ) -> Result<(), SlotError>
     requires rise { Rise 0 announced.keys }
-    requires below { All (λ key. key < 64) announced.keys }
+    requires below { All (λ key. key < MAX_SERVICES) announced.keys }
     ensures exactly { refusal_in result ≡ refuse_back (slot_at slots.old.items sender).announced announced.entry.epoch }
     ensures ok { OnOk result (slots.new.items ≡ with_slot (announced_to announced.entry.epoch announced.entry.keys (slot_at slots.old.items sender)) slots.old.items) }
     ensures err { OnErr result (slots.new.items ≡ slots.old.items) }
@@ -93,7 +94,7 @@ fn receive_keys(
     sender: ServiceId,
     announced: AnnouncedRef<'_>,
 ) -> Result<(), TakeRefusal>
-    requires few { length roster.now ≤ 64 }
+    requires few { length roster.now ≤ MAX_SERVICES }
     requires rise { Rise 0 announced.keys }
     ensures ok { OnOk result ((own : ℕ) → IsReceived roster.now id own sender (TheSources announced.entry.epoch announced.entry.keys) slots.old.items slots.new.items) }
     ensures room { OnOk result (0 < journal.new.entry_room) }
@@ -154,7 +155,7 @@ pub(crate) fn receive(
     sender: ServiceId,
     bytes: &[u8],
 ) -> Result<Received, TakeRefusal>
-    requires few { length roster.now ≤ 64 }
+    requires few { length roster.now ≤ MAX_SERVICES }
     ensures ok { IfOk result (Receives roster.now id own sender bytes.now slots.old.items slots.new.items) }
     ensures room { IfOk result (λ received. received ≡ Received.Put → 0 < journal.new.entry_room) }
     ensures same { SameKept journal.old journal.new }

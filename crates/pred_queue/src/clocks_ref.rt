@@ -3,6 +3,7 @@ ghost use Rattle.std.specs.Prelude.{◌≡◌, ◌<◌, All, Some, length, slice
 ghost use Rattle.propagation.specs.Stamps.{Rise};
 
 use stamp_clock::KeySet;
+use svc_value::limits::MAX_SERVICES;
 use wire_frame::{KeysRef, PlaceClock, PlacesRef};
 
 /// Clocks of places that somebody else holds.
@@ -50,7 +51,7 @@ impl<'a> ClocksRef for PlacesRef<'a> {
 // The set of these keys.
 pub(crate) fn set_of(keys: KeysRef<'_>) -> KeySet
     requires rise { Rise 0 keys }
-    requires below { All (λ key. key < 64) keys }
+    requires below { All (λ key. key < MAX_SERVICES) keys }
     ensures { result ≡ keys.entry }
 {
     let mut set = KeySet::new();

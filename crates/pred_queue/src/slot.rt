@@ -23,6 +23,7 @@ use std::collections::VecDeque;
 use std::marker::Model;
 use std::mem;
 use std::sync::ledger::Ledger;
+use svc_value::limits::MAX_SERVICES;
 use svc_value::{Clock, OutOfMemory, ServiceId, Steps, Value};
 use wire_frame::{KeysRef, PlaceClock, PlacesRef};
 
@@ -92,7 +93,7 @@ impl Slot {
     /// then as it was. It never wants memory.
     pub fn announce(&mut self, epoch: Clock, keys: &[ServiceId]) -> Result<(), SlotError>
         requires rise { Rise 0 keys.now }
-        requires below { All (λ key. key < 64) keys.now }
+        requires below { All (λ key. key < MAX_SERVICES) keys.now }
         ensures exactly { refusal_in result ≡ refuse_back self.old.announced epoch }
         ensures memory { IfErr result (λ error. IsSome (refusal_of error)) }
         ensures ok { OnOk result (self.new ≡ announced_to epoch keys.now self.old) }
@@ -105,7 +106,7 @@ impl Slot {
     /// `announce`.
     pub fn announce_keys(&mut self, epoch: Clock, keys: KeysRef<'_>) -> Result<(), SlotError>
         requires rise { Rise 0 keys }
-        requires below { All (λ key. key < 64) keys }
+        requires below { All (λ key. key < MAX_SERVICES) keys }
         ensures exactly { refusal_in result ≡ refuse_back self.old.announced epoch }
         ensures memory { IfErr result (λ error. IsSome (refusal_of error)) }
         ensures ok { OnOk result (self.new ≡ announced_to epoch keys.entry self.old) }

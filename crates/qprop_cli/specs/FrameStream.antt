@@ -6,6 +6,7 @@ use Rattle.wire_frame.specs.declared.frame.Frame.{Frame}
 use Rattle.wire_frame.specs.Frames.{FrameOf}
 use Rattle.wire_frame.specs.Stream.{framed_item}
 use Rattle.qprop_cli.specs.FrameText.{frame_line}
+use Rattle.svc_value.specs.declared.limits.TheConstants.{MAX_DOCUMENT_LEN}
 
 -- the bytes are those of these frames, each after its length
 pub data IsStream : List ℕ → List Frame → Type 0 where
@@ -14,7 +15,7 @@ pub data IsStream : List ℕ → List Frame → Type 0 where
 
 -- the bytes are a stream of these frames, and no more than a stream may have
 pub record HasFrames (bytes : List ℕ) (frames : List Frame) : Type 0 where
-  pub short : length bytes ≤ 1048576
+  pub short : length bytes ≤ MAX_DOCUMENT_LEN
   pub stream : IsStream bytes frames
 
 -- the bytes are a stream of frames, and the text is a line for each
@@ -54,5 +55,5 @@ pub record IsFirstWrong (bytes : List ℕ) (number : ℕ) : Type 0 where
 -- the refusal of bytes that are no stream, or more than a stream may have
 abbrev pub IsStreamRefusal : List ℕ → Refusal → Type 0
 IsStreamRefusal bytes refusal =
-    ((1048576 < length bytes) × (refusal ≡ record { line = 0; code = E01 }))
-    ⊎ ((length bytes ≤ 1048576) × IsFirstWrong bytes refusal.line × (refusal.code ≡ E20))
+    ((MAX_DOCUMENT_LEN < length bytes) × (refusal ≡ record { line = 0; code = E01 }))
+    ⊎ ((length bytes ≤ MAX_DOCUMENT_LEN) × IsFirstWrong bytes refusal.line × (refusal.code ≡ E20))

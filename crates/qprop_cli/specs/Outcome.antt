@@ -19,6 +19,7 @@ use Rattle.qprop_cli.specs.Refusals.{refusal_line}
 use Rattle.qprop_cli.specs.Run.{HasDone}
 use Rattle.qprop_cli.specs.Streams.{ReadsWhole, ReadsUpTo, AddsBeginning}
 use Rattle.command_words.specs.Words.{usage_line}
+use Rattle.svc_value.specs.declared.limits.TheConstants.{MAX_DOCUMENT_LEN}
 
 -- the source was read to its end, what it gave is a document with these legs, what was added is their settled text, and the network has
 -- done them
@@ -78,7 +79,7 @@ IsRefusedBy (Some (Make size)) bytes refusal = ⊥
 -- what the source gave, to its end or one byte past the most that a command reads, has this refusal by the command
 pub record RefusesInput (command : Option Command) (left_old left_new : Option (List ℕ)) (refusal : Refusal) : Type 0 where
   pub read : List ℕ
-  pub whole : ReadsUpTo 1048576 left_old left_new read
+  pub whole : ReadsUpTo MAX_DOCUMENT_LEN left_old left_new read
   pub refused : IsRefusedBy command read refusal
 
 -- what the source gave is refused by the command, and the line of its refusal was added

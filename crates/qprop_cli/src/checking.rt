@@ -5,12 +5,13 @@ ghost use Rattle.qprop_cli.specs.Checked.{accepted_line, change_count, service_c
 
 use std::alloc::Global;
 use svc_plan::Leg;
+use svc_value::limits::MAX_LEGS;
 use svc_value::{OutOfMemory, Value, print_value};
 
 // How many services the legs declare, and how many changes they make.
 fn counts(legs: &[Leg]) -> (u64, u64)
     requires legs { AreLegsAfter [] legs.now }
-    requires few { length legs.now ≤ 1000 }
+    requires few { length legs.now ≤ MAX_LEGS }
     ensures services { result.0 ≡ service_count legs.now }
     ensures changes { result.1 ≡ change_count legs.now }
     ensures small { (result.0 ≤ 64000) × (result.1 ≤ 1024000) }
@@ -27,7 +28,7 @@ fn counts(legs: &[Leg]) -> (u64, u64)
 /// The line of a document with these legs, in memory of `alloc`.
 pub(crate) fn accepted_text(alloc: Global, legs: &[Leg]) -> Result<Vec<u8>, OutOfMemory>
     requires legs { AreLegsAfter [] legs.now }
-    requires few { length legs.now ≤ 1000 }
+    requires few { length legs.now ≤ MAX_LEGS }
     ensures { IfOk result (λ text. text.items ≡ accepted_line legs.now) }
 {
     let (services, changes) = counts(legs);

@@ -11,6 +11,7 @@ use central_eval::central;
 use std::alloc::Global;
 use svc_graph::Book;
 use svc_plan::{Leg, extend};
+use svc_value::limits::MAX_LEGS;
 use svc_value::{OutOfMemory, Sink};
 use trace_text::settled_text;
 
@@ -66,7 +67,7 @@ pub(crate) fn evaluate_legs<K: Sink>(
     sink: &mut K,
 ) -> Result<(), LegError>
     requires legs { AreLegsAfter [] legs.now }
-    requires few { length legs.now ≤ 1000 }
+    requires few { length legs.now ≤ MAX_LEGS }
     ensures settled { OnOk result (AddsSettled (K.held sink.old) (K.held sink.new) legs.now) }
     ensures begun { OnErr result (AddsBlocks (K.held sink.old) (K.held sink.new) legs.now) }
     ensures later { K.faults sink.old ≤ K.faults sink.new }

@@ -4,10 +4,8 @@ ghost use Rattle.svc_value.specs.Causes.{Rose};
 ghost use Rattle.qprop_cli.specs.Streams.{ReadsUpTo};
 
 use std::alloc::{AllocError, Global};
+pub use svc_value::limits::MAX_DOCUMENT_LEN;
 use svc_value::{Failed, Source};
-
-/// The most bytes that a document or a stream of frames has.
-pub const MAX_DOCUMENT_LEN: usize = 1_048_576;
 
 // How many bytes one read asks for.
 const CHUNK: usize = 8192;
@@ -46,7 +44,7 @@ impl From<Failed> for ReadError {
 /// All that the source has left, or its first 1,048,577 bytes where there are more than may be read. `Fault` only where
 /// the source's count of faults rose; `OutOfMemory` when memory runs out. After both, bytes that were read are gone.
 pub(crate) fn read_all<S: Source>(alloc: Global, source: &mut S) -> Result<Vec<u8>, ReadError>
-    ensures read { IfOk result (λ bytes. ReadsUpTo 1048576 (S.left source.old) (S.left source.new) bytes.items) }
+    ensures read { IfOk result (λ bytes. ReadsUpTo MAX_DOCUMENT_LEN (S.left source.old) (S.left source.new) bytes.items) }
     ensures later { S.faults source.old ≤ S.faults source.new }
     ensures fault { IsErrOf result ReadError.Fault → Rose (S.faults source.old) (S.faults source.new) }
 {

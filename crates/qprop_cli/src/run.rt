@@ -12,6 +12,7 @@ use crate::writing::write_all;
 use settle_core::Network;
 use std::alloc::Global;
 use svc_plan::Leg;
+use svc_value::limits::MAX_LEGS;
 use svc_value::{Failed, OutOfMemory, Sink};
 use trace_text::settled_text;
 
@@ -107,7 +108,7 @@ pub(crate) fn settle_legs<K: Sink>(
 ) -> Result<Network, LegError>
     requires legs { AreLegsAfter [] legs.now }
     requires named { EachNamed [] legs.now }
-    requires few { length legs.now ≤ 1000 }
+    requires few { length legs.now ≤ MAX_LEGS }
     ensures settled { OnOk result (AddsSettled (K.held sink.old) (K.held sink.new) legs.now) }
     ensures network { IfOk result (λ network. HasDone legs.now network) }
     ensures begun { OnErr result (AddsBlocks (K.held sink.old) (K.held sink.new) legs.now) }

@@ -18,14 +18,15 @@ use node_core::{Node, TakeRefusal, Turned};
 use std::marker::Brand;
 use std::sync::ledger::{Blank, Ledger};
 use svc_graph::History;
+use svc_value::limits::MAX_SERVICES;
 use svc_value::{OutOfMemory, ServiceId, Steps};
 
 // Moves what the node sent into its links, which have room for it.
 pub(crate) fn hand_over(node: &mut Node, links: &mut Links, from: ServiceId)
-    requires from { from < 64 }
+    requires from { from < MAX_SERVICES }
     requires room { (q : ℕ) → length (waiting q node.old.outbox) ≤ (link_in links.old.items q from).spare }
     ensures node { node.new ≡ record node.old { outbox = []; handed = node.old.handed + length node.old.outbox } }
-    ensures links { (q p : ℕ) → p < 64 → waits (waiting_in links.new.items) q p ≡ waits (waiting_in links.old.items) q p ++ (if p == from then waiting q node.old.outbox else []) }
+    ensures links { (q p : ℕ) → p < MAX_SERVICES → waits (waiting_in links.new.items) q p ≡ waits (waiting_in links.old.items) q p ++ (if p == from then waiting q node.old.outbox else []) }
     ensures len { length links.new.items ≡ length links.old.items }
 {
     while let Some(outgoing_frame) = node.pop_out() {

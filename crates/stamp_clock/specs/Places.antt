@@ -2,6 +2,7 @@
 use Rattle.std.specs.Prelude.{ℕ, zero, suc, List, [], ◌∷◌, ◌++◌, ◌<◌, ◌==◌, All, if◌then◌else◌}
 use Rattle.std.specs.Int.{bit_at}
 use Rattle.propagation.specs.Stamps.{Rise}
+use Rattle.svc_value.specs.declared.limits.TheConstants.{MAX_SERVICES}
 
 -- the places below n whose bit is 1, rising
 unfoldable pub places_below : ℕ → ℕ → List ℕ
@@ -15,4 +16,4 @@ places word = places_below 64 word
 -- the keys rise and are below 64
 pub record AreKeys (keys : List ℕ) : Type 0 where
   pub rise : Rise 0 keys
-  pub below : All (λ key. key < 64) keys
+  pub below : All (λ key. key < MAX_SERVICES) keys

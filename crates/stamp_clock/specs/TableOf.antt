@@ -6,6 +6,7 @@ use Rattle.propagation.specs.Stamps.{Stamps, clock_of}
 use Rattle.service_machine.proofs.Raising.{clock-this, clock-other}
 use Rattle.stamp_clock.specs.Table.{raised_clocks}
 use Rattle.stamp_clock.specs.declared.floor.Floor.TheInside.{Inside}
+use Rattle.svc_value.specs.declared.limits.TheConstants.{MAX_SERVICES}
 
 -- the clocks of n services from `first` on
 unfoldable pub table_of : ℕ → ℕ → Stamps → List ℕ
@@ -53,5 +54,5 @@ table_of-raised_clocks first (clock ∷ rest) =
     (table_of-same (length rest) (suc first) (raised_clocks first (clock ∷ rest)) (raised_clocks (suc first) rest) (λ q le. raised_clocks-rest first clock rest q (omega arith)) ∙ table_of-raised_clocks (suc first) rest)
 
 -- a table of 64 clocks is the table of those that are not 0
-pub table_of-floor : (a : Inside) → length a.clocks ≡ 64 → record { clocks = table_of 64 0 (raised_clocks 0 a.clocks) } ≡ a
+pub table_of-floor : (a : Inside) → length a.clocks ≡ MAX_SERVICES → record { clocks = table_of MAX_SERVICES 0 (raised_clocks 0 a.clocks) } ≡ a
 table_of-floor a h = ap (λ clocks. record { clocks = clocks }) (ap (λ n. table_of n 0 (raised_clocks 0 a.clocks)) (sym h) ∙ table_of-raised_clocks 0 a.clocks)

@@ -7,17 +7,19 @@ ghost use Rattle.stamp_clock.specs.Beside.{AreStamps};
 
 use crate::Stamps;
 use std::marker::Model;
+use svc_value::limits::MAX_SERVICES;
 use svc_value::{Clock, OutOfMemory, ServiceId};
 
 /// For each service below 64 the greatest clock that was raised, or 0. Contracts see it as stamps, in which a service that
 /// no raise had is missing.
 #[derive(Clone, Copy, Debug)]
 pub struct Floor {
-    clocks: [Clock; 64],
+    clocks: [Clock; MAX_SERVICES],
 }
 
 impl Model for Floor {
     ghost use Rattle.std.specs.Prelude.{List, ℕ, ◌≡◌, length};
+    ghost use Rattle.svc_value.specs.declared.limits.TheConstants.{MAX_SERVICES};
 
     ghost Value = { List (ℕ × ℕ) };
 
@@ -26,9 +28,9 @@ impl Model for Floor {
 
     ghost view = { λ floor. raised_clocks 0 floor.clocks };
 
-    ghost invariant = { λ floor. length floor.clocks ≡ 64 };
+    ghost invariant = { λ floor. length floor.clocks ≡ MAX_SERVICES };
 
-    ghost inverse = { λ stamps. record { clocks = table_of 64 0 stamps } };
+    ghost inverse = { λ stamps. record { clocks = table_of MAX_SERVICES 0 stamps } };
 
     ghost inverse_ok = { λ a h. table_of-floor a h };
 }
@@ -39,7 +41,7 @@ impl Floor {
         ensures { result ≡ [] }
     {
         Floor {
-            clocks: [Clock(0); 64],
+            clocks: [Clock(0); MAX_SERVICES],
         }
     }
 
@@ -56,7 +58,7 @@ impl Floor {
 
     /// Takes for the service `id`, below 64, the greater clock of the floor and `clock`, at least 1.
     pub fn raise_one(&mut self, id: ServiceId, clock: Clock)
-        requires below { id < 64 }
+        requires below { id < MAX_SERVICES }
         requires positive { 0 < clock }
         ensures { self.new ≡ raised_one self.old id clock }
     {
@@ -103,7 +105,7 @@ impl Floor {
 
     // The greatest clock of a service, or 0.
     fn clock(&self, id: ServiceId) -> Clock
-        requires { id < 64 }
+        requires { id < MAX_SERVICES }
         ensures { result ≡ clock_of self.now id }
     {
         self.clocks[id.0 as usize]

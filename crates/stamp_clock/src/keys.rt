@@ -5,6 +5,7 @@ ghost use Rattle.propagation.specs.Stamps.{Rise};
 
 use std::marker::Model;
 use svc_value::ServiceId;
+use svc_value::limits::MAX_SERVICES;
 
 /// A set of services below 64, as one bit for each. Contracts see the list of its keys, rising.
 #[derive(Clone, Copy, Debug)]
@@ -41,7 +42,7 @@ impl KeySet {
 
     /// Adds `key`, which is below 64 and above every key of the set. It takes no memory.
     pub fn push(&mut self, key: ServiceId)
-        requires below { key < 64 }
+        requires below { key < MAX_SERVICES }
         requires above { All (λ before. before < key) self.old }
         ensures { self.new ≡ self.old ++ key ∷ [] }
     {
@@ -51,7 +52,7 @@ impl KeySet {
     /// The set of these keys, which rise strictly and are below 64.
     pub fn of(keys: &[ServiceId]) -> KeySet
         requires rise { Rise 0 keys.now }
-        requires below { All (λ key. key < 64) keys.now }
+        requires below { All (λ key. key < MAX_SERVICES) keys.now }
         ensures { result ≡ keys.now }
     {
         let mut set = KeySet::new();

@@ -8,6 +8,7 @@ ghost use Rattle.service_machine.specs.States.{raise};
 use crate::{KeySet, Pairs};
 use std::alloc::Global;
 use std::marker::Model;
+use svc_value::limits::MAX_SERVICES;
 use svc_value::{Clock, Clocks, OutOfMemory, ServiceId};
 
 /// The clocks of services below 64, each at least 1. Contracts see the list of the pairs of key and clock, with rising keys.
@@ -36,7 +37,7 @@ impl Stamps {
 
     /// The stamps of one service: `id`, below 64, at `clock`, at least 1. `OutOfMemory` where `alloc` has none.
     pub fn one(alloc: Global, id: ServiceId, clock: Clock) -> Result<Stamps, OutOfMemory>
-        requires below { id < 64 }
+        requires below { id < MAX_SERVICES }
         requires positive { 0 < clock }
         ensures { IfOk result (λ stamps. stamps ≡ (id, clock) ∷ []) }
     {
@@ -46,7 +47,7 @@ impl Stamps {
     /// The stamps of one service: `id`, below 64, at `clock`, at least 1. They are made in the memory of `memory`, whose
     /// clocks are forgotten. `OutOfMemory` where it holds no clock and there is no more; the memory is then gone.
     pub fn one_in(memory: Clocks, id: ServiceId, clock: Clock) -> Result<Stamps, OutOfMemory>
-        requires below { id < 64 }
+        requires below { id < MAX_SERVICES }
         requires positive { 0 < clock }
         ensures { IfOk result (λ stamps. stamps ≡ (id, clock) ∷ []) }
     {
@@ -61,7 +62,7 @@ impl Stamps {
     pub fn of(alloc: Global, keys: &[ServiceId], clocks: &[Clock]) -> Result<Stamps, OutOfMemory>
         requires lengths { length keys.now ≡ length clocks.now }
         requires rise { Rise 0 keys.now }
-        requires below { All (λ key. key < 64) keys.now }
+        requires below { All (λ key. key < MAX_SERVICES) keys.now }
         requires positive { All (λ clock. 0 < clock) clocks.now }
         ensures { IfOk result (λ stamps. stamps ≡ zip keys.now clocks.now) }
     {

@@ -5,6 +5,7 @@ use Rattle.propagation.specs.Stamps.{Stamps, clock_of, IsRising}
 use Rattle.service_machine.specs.States.{Slot, empty_slot}
 use Rattle.service_machine.specs.Turning.{lag}
 use Rattle.stamp_match.specs.declared.matcher.Matcher.{Matcher}
+use Rattle.svc_value.specs.declared.limits.TheConstants.{MAX_DEPENDENCIES}
 
 -- the slot at a place
 abbrev pub slot_in : {V : Type 0} → List (Slot V) → ℕ → Slot V
@@ -47,8 +48,8 @@ pub record IsFollowed (greatest_clocks : Stamps) (flagged : Bool) (head : Option
 
 -- for each key the greatest clock of the floor and of these heads, and which of the heads lag
 pub record IsKept (heads : List (Option Stamps)) (floor : Stamps) (matcher : Matcher) : Type 0 where
-  pub few : length heads ≤ 16
-  pub places : length matcher.lagging ≡ 16
+  pub few : length heads ≤ MAX_DEPENDENCIES
+  pub places : length matcher.lagging ≡ MAX_DEPENDENCIES
   pub floor_rises : IsRising 0 floor
   pub heads_rise : AreRisingHeads heads
   pub tops_rise : IsRising 0 matcher.greatest_clocks

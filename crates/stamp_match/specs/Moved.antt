@@ -6,10 +6,11 @@ use Rattle.service_machine.specs.States.{Slot}
 use Rattle.service_machine.specs.Turning.{head_lag, lagging}
 use Rattle.stamp_match.specs.Kept.{clock_in, lags, IsRisingHead, IsFollowed}
 use Rattle.stamp_match.specs.declared.matcher.Matcher.{Matcher}
+use Rattle.svc_value.specs.declared.limits.TheConstants.{MAX_DEPENDENCIES}
 
 -- the greatest clocks took those of the head at the place, and the flags follow
 pub record IsRaised (heads : List (Option Stamps)) (place : ℕ) (old new : Matcher) : Type 0 where
-  pub places : length new.lagging ≡ 16
+  pub places : length new.lagging ≡ MAX_DEPENDENCIES
   pub rising : IsRising 0 new.greatest_clocks
   pub raised : (q : ℕ) → clock_of new.greatest_clocks q ≡ max (clock_of old.greatest_clocks q) (clock_in (slice_index_or heads place None) q)
   pub followed : (other : ℕ) → other < length heads →
@@ -18,7 +19,7 @@ pub record IsRaised (heads : List (Option Stamps)) (place : ℕ) (old new : Matc
 
 -- and the flag of that head is found
 pub record IsMoved (heads : List (Option Stamps)) (place : ℕ) (old new : Matcher) : Type 0 where
-  pub places : length new.lagging ≡ 16
+  pub places : length new.lagging ≡ MAX_DEPENDENCIES
   pub rising : IsRising 0 new.greatest_clocks
   pub head : IsRisingHead (slice_index_or heads place None)
   pub raised : (q : ℕ) → clock_of new.greatest_clocks q ≡ max (clock_of old.greatest_clocks q) (clock_in (slice_index_or heads place None) q)

@@ -10,6 +10,7 @@ use crate::walk::{first_lag, is_above};
 use pred_queue::Slot;
 use stamp_clock::{Floor, Stamps};
 use std::sync::ledger::Ledger;
+use svc_value::limits::{MAX_DEPENDENCIES, MAX_SERVICES};
 use svc_value::{Clock, ServiceId, Steps};
 
 // Whether the head of a slot has a key.
@@ -43,7 +44,7 @@ fn raise_key(
 )
     requires room { length slots.now ≤ length lagging.old }
     requires rising { IsRising 0 greatest_clocks.old }
-    requires below { key < 64 }
+    requires below { key < MAX_SERVICES }
     requires positive { 0 < clock }
     ensures raised { greatest_clocks.new ≡ raised_one greatest_clocks.old key clock }
     ensures rising { IsRising 0 greatest_clocks.new }
@@ -102,14 +103,14 @@ pub(crate) fn flags<L: Ledger>(
     greatest_clocks: &Floor,
     slots: &[Slot],
     looks: &mut Steps<L>,
-) -> [bool; 16]
-    requires { length slots.now ≤ 16 }
-    ensures places { length result ≡ 16 }
+) -> [bool; MAX_DEPENDENCIES]
+    requires { length slots.now ≤ MAX_DEPENDENCIES }
+    ensures places { length result ≡ MAX_DEPENDENCIES }
     ensures flags { (place : ℕ) → place < length slots.now → slice_index_or result place false ≡ lags greatest_clocks.now (slice_index_or (head_stamps slots.now) place None) }
     ensures rising { (place : ℕ) → place < length slots.now → IsRisingHead (slice_index_or (head_stamps slots.now) place None) }
     ensures looks { looks.new ≤ looks.old + head_keys slots.now }
 {
-    let mut lagging = [false; 16];
+    let mut lagging = [false; MAX_DEPENDENCIES];
     for place in 0..slots.len() {
         lagging[place] = head_lags(greatest_clocks, &slots[place], looks);
     }

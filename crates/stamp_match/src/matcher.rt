@@ -19,6 +19,7 @@ use pred_queue::Slot;
 use stamp_clock::{Floor, KeySet, Stamps};
 use std::marker::Brand;
 use std::sync::ledger::{Blank, Ledger};
+use svc_value::limits::MAX_DEPENDENCIES;
 use svc_value::{ServiceId, Steps};
 
 /// What `choose` finds among at most 16 slots, kept up to date: for each key the greatest clock of the floor and of the heads,
@@ -26,7 +27,7 @@ use svc_value::{ServiceId, Steps};
 #[derive(Clone, Copy, Debug)]
 pub struct Matcher {
     greatest_clocks: Floor,
-    lagging: [bool; 16],
+    lagging: [bool; MAX_DEPENDENCIES],
 }
 
 impl Matcher {
@@ -36,14 +37,14 @@ impl Matcher {
     {
         Matcher {
             greatest_clocks: Floor::new(),
-            lagging: [false; 16],
+            lagging: [false; MAX_DEPENDENCIES],
         }
     }
 
     /// The one of these slots, at most 16, under this floor. It walks over all clocks of the heads twice, and
     /// takes no memory.
     pub fn of(slots: &[Slot], floor: &Floor) -> Matcher
-        requires few { length slots.now ≤ 16 }
+        requires few { length slots.now ≤ MAX_DEPENDENCIES }
         ensures { IsMatcherOf slots.now floor.now result }
     {
         Matcher::counted::<Brand>(slots, floor, Blank::new(1))
@@ -51,7 +52,7 @@ impl Matcher {
 
     // The same, with looks that nobody counts.
     fn counted<L: Ledger>(slots: &[Slot], floor: &Floor, blank: Blank) -> Matcher
-        requires few { length slots.now ≤ 16 }
+        requires few { length slots.now ≤ MAX_DEPENDENCIES }
         requires name { blank.name ≡ L.name }
         requires parts { blank.parts ≡ L.parts }
         requires some { 0 < blank.parts }
@@ -63,7 +64,7 @@ impl Matcher {
 
     // The one of these slots under this floor.
     fn found<L: Ledger>(slots: &[Slot], floor: &Floor, looks: &mut Steps<L>) -> Matcher
-        requires few { length slots.now ≤ 16 }
+        requires few { length slots.now ≤ MAX_DEPENDENCIES }
         ensures matcher { IsMatcherOf slots.now floor.now result }
         ensures looks { looks.new ≤ looks.old + 2 * head_keys slots.now }
     {
@@ -165,8 +166,8 @@ impl Matcher {
     // Takes the clocks of the head at a place.
     fn raise_head<L: Ledger>(&mut self, slots: &[Slot], place: usize, looks: &mut Steps<L>)
         requires place { place < length slots.now }
-        requires few { length slots.now ≤ 16 }
-        requires places { length self.old.lagging ≡ 16 }
+        requires few { length slots.now ≤ MAX_DEPENDENCIES }
+        requires places { length self.old.lagging ≡ MAX_DEPENDENCIES }
         requires rising { IsRising 0 self.old.greatest_clocks }
         ensures raised { IsRaised (head_stamps slots.now) place self.old self.new }
         ensures looks { looks.new ≡ looks.old + keys_in (slot_in slots.now place).head }
@@ -187,8 +188,8 @@ impl Matcher {
     // The head at a place came, and no greatest clock fell with the one before it.
     fn follow<L: Ledger>(&mut self, slots: &[Slot], place: usize, looks: &mut Steps<L>)
         requires place { place < length slots.now }
-        requires few { length slots.now ≤ 16 }
-        requires places { length self.old.lagging ≡ 16 }
+        requires few { length slots.now ≤ MAX_DEPENDENCIES }
+        requires places { length self.old.lagging ≡ MAX_DEPENDENCIES }
         requires rising { IsRising 0 self.old.greatest_clocks }
         ensures moved { IsMoved (head_stamps slots.now) place self.old self.new }
         ensures looks { looks.new ≤ looks.old + 2 * keys_in (slot_in slots.now place).head }
@@ -240,8 +241,8 @@ impl Matcher {
         looks: &mut Steps<L>,
     )
         requires place { place < length slots.now }
-        requires few { length slots.now ≤ 16 }
-        requires places { length self.old.lagging ≡ 16 }
+        requires few { length slots.now ≤ MAX_DEPENDENCIES }
+        requires places { length self.old.lagging ≡ MAX_DEPENDENCIES }
         requires greatest_clocks { IsRising 0 self.old.greatest_clocks }
         ensures matcher { IsMatcherOf slots.now floor.now self.new ⊎ (AreReached self.old.greatest_clocks held (slice_index_or (head_stamps slots.now) place None) × IsMoved (head_stamps slots.now) place self.old self.new) }
         ensures looks { AreReached self.old.greatest_clocks held (slice_index_or (head_stamps slots.now) place None) →

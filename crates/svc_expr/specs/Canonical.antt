@@ -9,6 +9,7 @@ use Rattle.svc_expr.specs.declared.expr.Op.TheVariants.{Add, Sub, Mul, Div, Rem,
 use Rattle.svc_expr.specs.Types.{mentions}
 use Rattle.svc_expr.specs.Grammar.{with_names}
 use Rattle.svc_expr.specs.Tree.{Tree, number, words, given, negated, denied, pair, choice, len_of, number_of, text_of, sum_of_members, count_of_members, least_member, greatest_member}
+use Rattle.svc_value.specs.declared.limits.TheConstants.{MAX_TEXT_LEN}
 
 -- an operator with a blank on each side
 abbrev pub sign_text : Op → List ℕ
@@ -63,7 +64,7 @@ canonical_text names greatest_member = codes "max()"
 -- each number has 64 bits, and each text is UTF-8 of at most 256 bytes, as in every expression
 abbrev pub IsWithin : Tree → Type 0
 IsWithin (number z) = FitsSigned w64 z
-IsWithin (words text) = (length text ≤ 256) × IsUtf8 text
+IsWithin (words text) = (length text ≤ MAX_TEXT_LEN) × IsUtf8 text
 IsWithin (negated a) = IsWithin a
 IsWithin (denied a) = IsWithin a
 IsWithin (pair op a b) = IsWithin a × IsWithin b
@@ -77,7 +78,7 @@ IsWithin leaf = Unit {0}
 abbrev pub IsWritable : List (List ℕ) → Tree → Type 0
 IsWritable names (number (pos n)) = n < 2 ^ 63
 IsWritable names (number (negsuc n)) = n < 2 ^ 63
-IsWritable names (words text) = (length text ≤ 256) × IsUtf8 text
+IsWritable names (words text) = (length text ≤ MAX_TEXT_LEN) × IsUtf8 text
 IsWritable names (given k) = k < length names
 IsWritable names (negated a) = IsWritable names a
 IsWritable names (denied a) = IsWritable names a

@@ -18,6 +18,7 @@ use Rattle.svc_expr.specs.declared.level.Form.TheVariants as form
 use Rattle.svc_expr.specs.declared.level.Aggregate.{Aggregate}
 use Rattle.svc_expr.specs.declared.level.Aggregate.TheVariants as aggregate
 use Rattle.svc_expr.specs.Tree.{Tree, number, words, given, negated, denied, pair, choice, len_of, number_of, text_of, sum_of_members, count_of_members, least_member, greatest_member}
+use Rattle.svc_expr.specs.declared.expression.TheConstants.{MAX_LEVELS}
 
 -- the number of a level, from the loosest on
 abbrev pub level_number : Level → ℕ
@@ -154,7 +155,7 @@ pub data Spells (names : List (List ℕ)) : Level → ℕ → List Token → Tre
 
 -- the tokens are an expression with at most 64 levels of the text open at once, and these are its names in the order of first mention
 abbrev pub IsExpression : List Token → Tree → List (List ℕ) → Type 0
-IsExpression tokens e names = (names ≡ with_names [] (names_among tokens)) × Spells names Whole 64 tokens e []
+IsExpression tokens e names = (names ≡ with_names [] (names_among tokens)) × Spells names Whole MAX_LEVELS tokens e []
 
 -- the text is cut into tokens, and they are this expression with these names
 abbrev pub IsReading : List ℕ → Tree → List (List ℕ) → Type 0

@@ -14,6 +14,7 @@ use Rattle.svc_value.specs.declared.value.Value.TheVariants.{Int, Words, Bad}
 use Rattle.svc_expr.specs.declared.expr.Op.{Op}
 use Rattle.svc_expr.specs.declared.expr.Op.TheVariants.{Add, Sub, Mul, Div, Rem, Join, Eq, Ne, Lt, Le, Gt, Ge, And, Or}
 use Rattle.svc_expr.specs.Tree.{Tree, number, words, given, negated, denied, pair, choice, len_of, number_of, text_of, sum_of_members, count_of_members, least_member, greatest_member}
+use Rattle.svc_value.specs.declared.limits.TheConstants.{MAX_TEXT_LEN}
 
 -- what stands where a part has no type or a name has no value; no expression that has a type comes to it
 abbrev pub untyped : Value
@@ -69,7 +70,7 @@ of_numbers op x y = compared op (int_cmp x y)
 
 -- two texts as one, or a fault past 256 bytes
 abbrev pub concatenation : List ℕ → List ℕ → Value
-concatenation x y = if nat_le (length (x ++ y)) 256 then Words (x ++ y) else Bad Long
+concatenation x y = if nat_le (length (x ++ y)) MAX_TEXT_LEN then Words (x ++ y) else Bad Long
 
 -- an operator on two texts, which are ordered by their bytes
 abbrev pub of_texts : Op → List ℕ → List ℕ → Value

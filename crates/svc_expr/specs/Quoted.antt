@@ -5,6 +5,7 @@ use Rattle.std.specs.Str.{is_utf8}
 use Rattle.svc_value.specs.Quoted.{short_escape}
 use Rattle.svc_expr.specs.declared.quoting.Place.{Place}
 use Rattle.svc_expr.specs.declared.quoting.Place.TheVariants.{Plain, Escape, High, Low, Closed}
+use Rattle.svc_value.specs.declared.limits.TheConstants.{MAX_TEXT_LEN}
 
 -- what a byte behind `\` makes: what they stand for, or the begin of two hexadecimal digits
 abbrev pub escaped : ℕ → Option (Place × List ℕ)
@@ -35,7 +36,7 @@ meaning_from place (b ∷ bs) = option_and_then (λ x. option_map (λ text. x.1 
 
 -- a text has at most 256 bytes, and is UTF-8
 abbrev pub text_if : List ℕ → Option (List ℕ)
-text_if text = if nat_le (length text) 256 && is_utf8 text then Some text else None
+text_if text = if nat_le (length text) MAX_TEXT_LEN && is_utf8 text then Some text else None
 
 -- the text that a quoted text means, where it means one
 unfoldable pub quoted_meaning : List ℕ → Option (List ℕ)

@@ -11,10 +11,13 @@ use Rattle.svc_expr.specs.declared.level.Level.TheVariants.{Whole}
 use Rattle.svc_expr.specs.Tree.{Tree, nodes, depth, tree_of}
 use Rattle.svc_expr.specs.Types.{name_count}
 use Rattle.svc_expr.specs.Reading.{Part, naming, inner, level_at, all_read}
+use Rattle.svc_expr.specs.declared.sized_expr.TheConstants.{MAX_DEPTH, MAX_NODES}
+use Rattle.svc_expr.specs.declared.expression.TheConstants.{MAX_LEVELS}
+use Rattle.svc_expr.specs.declared.gathering.TheConstants.{MAX_NAMES}
 
 -- the tree, or None where it is beyond a limit, or has a name whose number is no byte
 unfoldable pub fit : Tree → Part
-fit e = if nat_le (nodes e) 128 && nat_le (depth e) 32 && nat_le (name_count e) 256 then Some e else None
+fit e = if nat_le (nodes e) MAX_NODES && nat_le (depth e) MAX_DEPTH && nat_le (name_count e) MAX_NAMES then Some e else None
 
 -- the tree of what was built
 abbrev pub part_of : Option SizedExpr → Part
@@ -33,7 +36,7 @@ Gives view (Err e) read = Fails e read
 
 -- the tree of all the tokens, with at most 64 levels of the text open at once
 unfoldable pub reading : List (List ℕ) → List Token → Option Part
-reading names ts = all_read (level_at fit (naming fit names) (inner fit (naming fit names) 64) Whole ts)
+reading names ts = all_read (level_at fit (naming fit names) (inner fit (naming fit names) MAX_LEVELS) Whole ts)
 
 -- what reading all the tokens answers, unless memory ran out
 abbrev pub Answers : Result Expr ExprError → Option Part → Type 0

@@ -3,6 +3,7 @@ use Rattle.std.specs.Prelude.{ℕ, ◌+◌, ◌≤◌, max, ℤ, List}
 use Rattle.svc_expr.specs.declared.expr.Op.{Op}
 use Rattle.svc_expr.specs.declared.expr.Expr.{Expr, fold-Expr}
 use Rattle.svc_expr.specs.declared.expr.ExprKind.TheOpen.{ExprKind-F}
+use Rattle.svc_expr.specs.declared.sized_expr.TheConstants.{MAX_DEPTH, MAX_NODES}
 
 -- an expression: each form with its operands
 pub data Tree : Type 0 where
@@ -66,4 +67,4 @@ depth leaf = 1
 
 -- at most 128 nodes, and a depth of at most 32
 abbrev pub IsSmall : Tree → Type 0
-IsSmall tree = (nodes tree ≤ 128) × (depth tree ≤ 32)
+IsSmall tree = (nodes tree ≤ MAX_NODES) × (depth tree ≤ MAX_DEPTH)

@@ -13,6 +13,7 @@ use crate::texts::{combine, count_characters, parse_number, print_number};
 use crate::value_ref::{ValueRef, borrowed_value};
 use crate::{Expr, ExprKind, Op};
 use std::alloc::Global;
+use svc_value::limits::MAX_DEPENDENCIES;
 use svc_value::{Fault, OutOfMemory, Value};
 
 fn named<'a>(given: &'a [Value], place: u8) -> Operand<'a>
@@ -95,7 +96,7 @@ fn part<'a>(
     given: &'a [Value],
     members: &[Value],
 ) -> Result<Operand<'a>, OutOfMemory>
-    requires { length members.now ≤ 16 }
+    requires { length members.now ≤ MAX_DEPENDENCIES }
     ensures value { IfOk result (λ operand. value_of operand ≡ meaning (tree_of expr.now) given.now members.now) }
     ensures no_memory { OnErr result (has_text (tree_of expr.now) ≡ true) }
 {
@@ -152,7 +153,7 @@ pub fn eval(
     given: &[Value],
     members: &[Value],
 ) -> Result<Value, OutOfMemory>
-    requires { length members.now ≤ 16 }
+    requires { length members.now ≤ MAX_DEPENDENCIES }
     ensures value { IfOk result (λ value. value ≡ meaning (tree_of expr.now) given.now members.now) }
     ensures no_memory { has_text (tree_of expr.now) ≡ false → All IsNoText given.now → IsOk result }
 {

@@ -4,6 +4,7 @@ ghost use Rattle.std.specs.Option.{option_map_or};
 ghost use Rattle.svc_expr.specs.Meaning.{exact, first_fault, greatest, least, numbers_in, of_members, total};
 
 use crate::numbers::fitted;
+use svc_value::limits::MAX_DEPENDENCIES;
 use svc_value::{Fault, Value};
 
 fn fault_among(members: &[Value]) -> Option<Fault>
@@ -18,7 +19,7 @@ fn fault_among(members: &[Value]) -> Option<Fault>
 }
 
 fn summed(members: &[Value]) -> Value
-    requires { length members.now ≤ 16 }
+    requires { length members.now ≤ MAX_DEPENDENCIES }
     ensures { result ≡ exact (total (numbers_in members.now)) }
 {
     let mut sum: i128 = 0;
@@ -32,7 +33,7 @@ fn summed(members: &[Value]) -> Value
 
 /// The first fault among the members, or their sum.
 pub(crate) fn sum_of(members: &[Value]) -> Value
-    requires { length members.now ≤ 16 }
+    requires { length members.now ≤ MAX_DEPENDENCIES }
     ensures { result ≡ of_members (λ zs. exact (total zs)) members.now }
 {
     match fault_among(members) {

@@ -6,6 +6,7 @@ ghost use Rattle.svc_expr.specs.Grammar.{aggregated};
 ghost use Rattle.svc_expr.specs.Reading.{formed_part, pair_part, choice_part};
 ghost use Rattle.svc_expr.specs.SizedExpr.{fit, part_of, Gives};
 
+use crate::gathering::MAX_NAMES;
 use crate::level::{Aggregate, Form};
 use crate::sized_expr::{MAX_DEPTH, MAX_NODES, ReadError, SizedExpr};
 use crate::{Boxed, Expr, ExprKind, Op};
@@ -21,7 +22,7 @@ fn build(
 ) -> Result<Option<SizedExpr>, ReadError>
     requires counted { count ≡ nodes (tree_of (record { kind = kind })) }
     requires measured { height ≡ depth (tree_of (record { kind = kind })) }
-    requires named { name_count (tree_of (record { kind = kind })) ≤ 256 }
+    requires named { name_count (tree_of (record { kind = kind })) ≤ MAX_NAMES }
     ensures { Gives part_of result (Some (fit (tree_of (record { kind = kind })))) }
 {
     if count > MAX_NODES || height > MAX_DEPTH {

@@ -63,7 +63,7 @@ fn push(text: &str, out: &mut Vec<u8>) -> Result<(), OutOfMemory>
 fn push_words(text: &ValueText, out: &mut Vec<u8>) -> Result<(), OutOfMemory>
     ensures ok { OnOk result (out.new.items ≡ out.old.items ++ between_quotes text.now) }
     ensures err { OnErr result (out.new.items ≡ out.old.items) }
-    ensures within { (length text.now ≤ 256) × IsUtf8 text.now }
+    ensures within { (length text.now ≤ MAX_TEXT_LEN) × IsUtf8 text.now }
 {
     prove!(text.as_str().len() <= MAX_TEXT_LEN);
     let value = Value::Words(text.copy()?);

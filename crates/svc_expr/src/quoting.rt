@@ -67,11 +67,11 @@ fn step_on(place: Place, byte: u8) -> Option<(Place, Option<u8>)>
 
 // Writes the bytes behind the first `len`, where there is room for them.
 fn put(out: &mut [u8], len: usize, byte: Option<u8>) -> Option<usize>
-    requires room { length out.old ≡ 256 }
-    requires within { len ≤ 256 }
-    ensures within { IfSome result (λ n. n ≤ 256) }
+    requires room { length out.old ≡ MAX_TEXT_LEN }
+    requires within { len ≤ MAX_TEXT_LEN }
+    ensures within { IfSome result (λ n. n ≤ MAX_TEXT_LEN) }
     ensures put { IfSome result (λ n. take n out.new ≡ take len out.old ++ option_to_list byte) }
-    ensures full { IsNone result → 256 < length (take len out.old ++ option_to_list byte) }
+    ensures full { IsNone result → MAX_TEXT_LEN < length (take len out.old ++ option_to_list byte) }
 {
     let Some(byte) = byte else {
         return Some(len);
@@ -85,8 +85,8 @@ fn put(out: &mut [u8], len: usize, byte: Option<u8>) -> Option<usize>
 
 // Writes the meaning of a quoted text behind its first quote, where it has at most 256 bytes.
 fn write_meaning(inside: &[u8], out: &mut [u8]) -> Option<usize>
-    requires { length out.old ≡ 256 }
-    ensures within { IfSome result (λ len. len ≤ 256) }
+    requires { length out.old ≡ MAX_TEXT_LEN }
+    ensures within { IfSome result (λ len. len ≤ MAX_TEXT_LEN) }
     ensures written { IfSome result (λ len. meaning_from Place.Plain inside.now ≡ Some (take len out.new)) }
     ensures none { IsNone result → option_and_then text_if (meaning_from Place.Plain inside.now) ≡ None }
 {
@@ -111,7 +111,7 @@ fn write_meaning(inside: &[u8], out: &mut [u8]) -> Option<usize>
 
 // The text of these bytes, where they are one.
 fn text_of(alloc: Global, bytes: &[u8]) -> Result<Option<ValueText>, OutOfMemory>
-    requires { length bytes.now ≤ 256 }
+    requires { length bytes.now ≤ MAX_TEXT_LEN }
     ensures { IfOk result (λ text. text ≡ text_if bytes.now) }
 {
     match str::from_utf8(bytes) {
@@ -121,7 +121,7 @@ fn text_of(alloc: Global, bytes: &[u8]) -> Result<Option<ValueText>, OutOfMemory
 }
 
 fn stored(alloc: Global, text: &str) -> Result<ValueText, OutOfMemory>
-    requires { length text.now ≤ 256 }
+    requires { length text.now ≤ MAX_TEXT_LEN }
     ensures { IfOk result (λ made. made ≡ text.now) }
 {
     match ValueText::new(alloc, text) {

@@ -1,4 +1,6 @@
 // Trees within the limits, and why none was read.
+ghost use Rattle.svc_expr.specs.declared.sized_expr.TheConstants.{MAX_DEPTH, MAX_NODES};
+ghost use Rattle.svc_expr.specs.declared.gathering.TheConstants.{MAX_NAMES};
 ghost use Rattle.std.specs.Prelude.{◌≡◌, ◌≤◌};
 ghost use Rattle.svc_expr.specs.Tree.{tree_of, nodes, depth};
 ghost use Rattle.svc_expr.specs.Types.{name_count};
@@ -19,9 +21,9 @@ pub(crate) struct SizedExpr {
     pub(crate) height: u32,
     ghost counted: { count ≡ nodes (tree_of expr) },
     ghost measured: { height ≡ depth (tree_of expr) },
-    ghost few: { count ≤ 128 },
-    ghost low: { height ≤ 32 },
-    ghost named: { name_count (tree_of expr) ≤ 256 },
+    ghost few: { count ≤ MAX_NODES },
+    ghost low: { height ≤ MAX_DEPTH },
+    ghost named: { name_count (tree_of expr) ≤ MAX_NAMES },
 }
 
 /// Why nothing was read.

@@ -11,7 +11,7 @@ use std::alloc::Global;
 use svc_value::{Fault, MAX_TEXT_LEN, OutOfMemory, TextError, Value, ValueText};
 
 fn stored(alloc: Global, text: &str) -> Result<Value, OutOfMemory>
-    requires { length text.now ≤ 256 }
+    requires { length text.now ≤ MAX_TEXT_LEN }
     ensures { IfOk result (λ value. value ≡ Words text.now) }
 {
     match ValueText::new(alloc, text) {

@@ -9,6 +9,7 @@ use crate::members::{greatest_of, least_of, sum_of};
 use crate::numbers::{calculate, compare, counts_as_true, from_bool, negated};
 use crate::texts::{count_characters, parse_number};
 use crate::{Expr, ExprKind, Op};
+use svc_value::limits::MAX_DEPENDENCIES;
 use svc_value::{Fault, Value, ValueText};
 
 /// The value of a part, where no text has to be made for it. A text is lent.
@@ -128,7 +129,7 @@ pub(crate) fn borrowed_value<'a>(
     given: &'a [Value],
     members: &[Value],
 ) -> ValueRef<'a>
-    requires { length members.now ≤ 16 }
+    requires { length members.now ≤ MAX_DEPENDENCIES }
     ensures { Says result (meaning (tree_of expr.now) given.now members.now) }
 {
     match expr.kind.get() {

@@ -10,6 +10,7 @@ use Rattle.svc_graph.specs.declared.definition.Formula.{Formula}
 use Rattle.svc_graph.specs.History.{Row, history_of, is_birth, row_at}
 use Rattle.svc_value.specs.declared.value.Value.{Value}
 use Rattle.svc_value.specs.declared.value.Value.TheVariants.{Bad}
+use Rattle.svc_value.specs.declared.limits.TheConstants.{MAX_CLOCK}
 
 -- the expression is within its limits, and has one service for each name, all different
 pub record IsWritten (formula : Formula) : Type 0 where
@@ -35,7 +36,7 @@ pub record IsChangeOf (rows : List Row) (n : ℕ) (change : Change) : Type 0 whe
   pub declared : n < length rows
   pub first : IsTrue (is_birth change) ↔ (history_of rows n ≡ [])
   pub form : HasForm (row_at rows n).rank change
-  pub clock : length (history_of rows n) < 1024000
+  pub clock : length (history_of rows n) < MAX_CLOCK
 
 -- the expression of a change, if it has one, is within its limits
 abbrev pub IsSmallChange : Change → Type 0

@@ -13,6 +13,7 @@ use Rattle.svc_graph.specs.History.{Row, names_in, roster_of, row_at}
 use Rattle.svc_graph.specs.Refusals.{kind_at}
 use Rattle.svc_value.specs.Value.{HasType}
 use Rattle.svc_value.specs.declared.value.ValueType.TheVariants.{Int}
+use Rattle.svc_value.specs.declared.limits.TheConstants.{MAX_CLOCK, MAX_DEPENDENCIES, MAX_RANK, MAX_SERVICES}
 
 -- service p is declared and has a lower rank than n
 pub record IsBelow (kinds : List Kind) (n p : ℕ) : Type 0 where
@@ -23,7 +24,7 @@ pub record IsBelow (kinds : List Kind) (n p : ℕ) : Type 0 where
 pub record IsFormulaOf (kinds : List Kind) (n : ℕ) (formula : Formula) : Type 0 where
   pub written : IsWritten formula
   pub apart : AreDistinct (formula.fixed ++ formula.members)
-  pub few : length (formula.fixed ++ formula.members) ≤ 16
+  pub few : length (formula.fixed ++ formula.members) ≤ MAX_DEPENDENCIES
   pub below : (p : ℕ) → Has (formula.fixed ++ formula.members) p → IsBelow kinds n p
   pub typed : type_in (tree_of formula.expr) (map (λ p. (kind_at kinds p).ty) formula.fixed) ≡ Some (kind_at kinds n).ty
   pub numbers : takes_numbers (tree_of formula.expr) ≡ true → (p : ℕ) → Has formula.members p → (kind_at kinds p).ty ≡ Int
@@ -35,12 +36,12 @@ IsDefinitionOf kinds n (Derived formula) = (0 < (kind_at kinds n).rank) × IsFor
 
 -- the rank and the clock of a row are within their limits, and its definitions are accepted
 pub record IsRow (kinds : List Kind) (n : ℕ) (row : Row) : Type 0 where
-  pub rank : row.rank ≤ 1000
-  pub clock : length row.history ≤ 1024000
+  pub rank : row.rank ≤ MAX_RANK
+  pub clock : length row.history ≤ MAX_CLOCK
   pub definitions : (d : Definition) → Has row.history d → IsDefinitionOf kinds n d
 
 -- at most 64 services, of different names, each with its row
 pub record IsBook (rows : List Row) : Type 0 where
-  pub few : length rows ≤ 64
+  pub few : length rows ≤ MAX_SERVICES
   pub names : Differ (names_in rows)
   pub each : (n : ℕ) → n < length rows → IsRow (roster_of rows) n (row_at rows n)

@@ -17,6 +17,7 @@ use Rattle.svc_graph.specs.History.{Row, dependencies, history_of, present, rost
 use Rattle.svc_value.specs.Value.{has_type}
 use Rattle.svc_value.specs.declared.value.ValueType.{ValueType}
 use Rattle.svc_value.specs.declared.value.ValueType.TheVariants.{Int, Text}
+use Rattle.svc_value.specs.declared.limits.TheConstants.{MAX_DEPENDENCIES}
 
 -- ---- words
 
@@ -100,11 +101,11 @@ has_wrong_type kinds n last (Define formula) = is_derived kinds n && is_ill_type
 
 -- more than 16 dependencies
 abbrev pub is_large : Formula → Bool
-is_large formula = nat_lt 16 (length formula.fixed + length formula.members)
+is_large formula = nat_lt MAX_DEPENDENCIES (length formula.fixed + length formula.members)
 
 abbrev pub has_too_many : List Kind → ℕ → Option Definition → Change → Bool
 has_too_many kinds n last (Birth (Derived formula)) = is_large formula
-has_too_many kinds n last (Add member) = is_derived kinds n && (not (is_among (last_dependencies last) member) && nat_le 16 (length (last_dependencies last)))
+has_too_many kinds n last (Add member) = is_derived kinds n && (not (is_among (last_dependencies last) member) && nat_le MAX_DEPENDENCIES (length (last_dependencies last)))
 has_too_many kinds n last (Define formula) = is_derived kinds n && is_large formula
 has_too_many kinds n last change = false
 

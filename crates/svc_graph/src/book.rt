@@ -12,10 +12,9 @@ use crate::{Change, ChangeError, DeclareError, History, Kind, Roster};
 use indexmap::IndexSet;
 use std::alloc::Global;
 use std::marker::Model;
+pub use svc_value::limits::MAX_SERVICES;
+use svc_value::limits::{MAX_CLOCK, MAX_RANK};
 use svc_value::{Clock, OutOfMemory, Rank, ServiceId, ValueType};
-
-/// The most services of a book.
-pub const MAX_SERVICES: usize = 64;
 
 /// The services of a network: the name, the rank, the type and the accepted definitions of each. Contracts see one row for
 /// each service, in the order of declaration.
@@ -99,13 +98,13 @@ impl Book {
         rank: Rank,
         ty: ValueType,
     ) -> Result<ServiceId, DeclareError>
-        requires { rank ≤ 1000 }
+        requires { rank ≤ MAX_RANK }
         ensures number { IfOk result (λ id. id ≡ length self.old) }
         ensures ok { OnOk result (self.new ≡ self.old ++ declared_row name.now rank ty ∷ []) }
 
         // The name is tested first.
         ensures taken { IsErrOf result DeclareError.Taken ↔ IsSome (find_service self.old name.now) }
-        ensures full { IsErrOf result DeclareError.Full ↔ (IsNone (find_service self.old name.now) × (64 ≤ length self.old)) }
+        ensures full { IsErrOf result DeclareError.Full ↔ (IsNone (find_service self.old name.now) × (MAX_SERVICES ≤ length self.old)) }
         ensures err { OnErr result (self.new ≡ self.old) }
     {
         if self.find(name).is_some() {
@@ -120,8 +119,8 @@ impl Book {
     // Appends a row without a definition.
     fn append(&mut self, name: &str, kind: Kind) -> Result<ServiceId, OutOfMemory>
         requires new { IsNone (find_service self.old name.now) }
-        requires room { length self.old < 64 }
-        requires rank { kind.rank ≤ 1000 }
+        requires room { length self.old < MAX_SERVICES }
+        requires rank { kind.rank ≤ MAX_RANK }
         ensures number { IfOk result (λ id. id ≡ length self.old) }
         ensures ok { OnOk result (self.new ≡ self.old ++ declared_row name.now kind.rank kind.ty ∷ []) }
         ensures err { OnErr result (self.new ≡ self.old) }
@@ -176,7 +175,7 @@ impl Book {
     pub fn history(&self, id: ServiceId) -> &History
         requires { id < length self.now }
         ensures history { result.now ≡ history_of self.now id }
-        ensures clock { length result.now ≤ 1024000 }
+        ensures clock { length result.now ≤ MAX_CLOCK }
     {
         &self.histories[place(id)]
     }

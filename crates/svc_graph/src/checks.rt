@@ -12,10 +12,8 @@ ghost use Rattle.svc_graph.specs.Refusals.{any_named, brings_again, changes_inpu
 use crate::{Change, ChangeError, Definition, DefinitionRef, Formula, FormulaRef, Kind};
 use std::alloc::{AllocError, Global};
 use svc_expr::{Expr, needs_int_members, type_of};
+pub use svc_value::limits::MAX_DEPENDENCIES;
 use svc_value::{Rank, ServiceId, ValueType};
-
-/// The most dependencies of a service.
-pub const MAX_DEPENDENCIES: usize = 16;
 
 // The rank and the type of a service; those of an input of whole numbers if it is not declared.
 pub(crate) fn kind_of(kinds: &[Kind], id: ServiceId) -> Kind

@@ -8,6 +8,7 @@ use Rattle.svc_token.specs.Word.{IsName}
 use Rattle.svc_plan.specs.declared.plan.Leg.{Leg}
 use Rattle.svc_plan.specs.declared.plan.PlanChange.{PlanChange}
 use Rattle.svc_plan.specs.declared.plan.ServiceLine.{ServiceLine}
+use Rattle.svc_value.specs.declared.limits.TheConstants.{MAX_CHANGES, MAX_RANK, MAX_SERVICES}
 
 -- a service without a definition
 abbrev pub row_of : ServiceLine → Row
@@ -46,8 +47,8 @@ EachBorn (row ∷ rows) = (row.history ≢ []) × EachBorn rows
 pub record IsServiceAfter (rows : List Row) (line : ServiceLine) : Type 0 where
   pub name : IsName line.name
   pub new : find_service rows line.name ≡ None
-  pub room : length rows < 64
-  pub rank : line.rank ≤ 1000
+  pub room : length rows < MAX_SERVICES
+  pub rank : line.rank ≤ MAX_RANK
 
 -- so is each of these after those before it
 abbrev pub AreServicesAfter : List Row → List ServiceLine → Type 0
@@ -69,7 +70,7 @@ AreAcceptedAfter rows (change ∷ changes) =
 pub record IsLegAfter (rows : List Row) (leg : Leg) : Type 0 where
   pub services : AreServicesAfter rows leg.services
   pub accepted : AreAcceptedAfter (with_services rows leg.services) leg.changes
-  pub few : length leg.changes ≤ 1024
+  pub few : length leg.changes ≤ MAX_CHANGES
   pub born : All (λ row. row.history ≢ []) (drop (length rows) (rows_after rows leg))
 
 -- each leg can be taken after those before it

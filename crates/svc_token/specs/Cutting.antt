@@ -7,6 +7,7 @@ use Rattle.svc_token.specs.declared.token.Token.{Token}
 use Rattle.svc_token.specs.declared.token.Token.TheVariants as tok
 use Rattle.svc_token.specs.Keyword.{keyword_of}
 use Rattle.svc_token.specs.Word.{is_word_byte, decimal_value, IsName}
+use Rattle.svc_token.specs.declared.token.TheConstants.{MAX_NAME_LEN}
 
 -- space, tab, CR
 abbrev pub is_blank : ℕ → Bool
@@ -24,7 +25,7 @@ Front = Option (Token × ℕ)
 -- a word is its keyword, or else a name where it has at most 32 bytes
 abbrev pub word_or : Option Keyword → List ℕ → Token
 word_or (Some keyword) word = tok.Keyword keyword
-word_or None word = if nat_le (length word) 32 then tok.Name word else tok.Long
+word_or None word = if nat_le (length word) MAX_NAME_LEN then tok.Name word else tok.Long
 
 unfoldable pub word_token : List ℕ → Token
 word_token word = word_or (keyword_of word) word

@@ -3,6 +3,7 @@ use Rattle.std.specs.Prelude.{◌≡◌, ℕ, ◌+◌, ◌-◌, ◌*◌, ◌≤�
 use Rattle.std.specs.List.{list_all}
 use Rattle.std.specs.Char.{is_ascii_digit, is_ascii_alphabetic}
 use Rattle.svc_token.specs.Keyword.{keyword_of}
+use Rattle.svc_token.specs.declared.token.TheConstants.{MAX_NAME_LEN}
 
 -- a letter, a digit or `_`: what a word goes on with
 abbrev pub is_word_byte : ℕ → Bool
@@ -16,7 +17,7 @@ is_word (b ∷ bs) = is_ascii_alphabetic b && list_all is_word_byte bs
 -- a word of at most 32 bytes that is no keyword
 pub record IsName (word : List ℕ) : Type 0 where
   pub is_word : is_word word ≡ true
-  pub short : length word ≤ 32
+  pub short : length word ≤ MAX_NAME_LEN
   pub free : keyword_of word ≡ None
 
 -- the number that decimal digits spell behind a number

@@ -6,6 +6,7 @@ use Rattle.svc_value.specs.declared.value.Fault.{Fault}
 use Rattle.svc_value.specs.declared.value.Fault.TheVariants.{Overflow, Zero, Long, Number, Empty}
 use Rattle.svc_value.specs.declared.value.Value.{Value}
 use Rattle.svc_value.specs.declared.value.Value.TheVariants.{Int, Words, Bad}
+use Rattle.svc_value.specs.declared.limits.TheConstants.{MAX_TEXT_LEN}
 
 -- the code of a fault
 abbrev pub fault_code : Fault → ℕ
@@ -24,7 +25,7 @@ layout (Bad fault) = 3 ∷ fault_code fault ∷ []
 -- what a value can be: a whole number of 64 bits, a text of at most 256 bytes of UTF-8, or a fault
 abbrev pub IsWithin : Value → Type 0
 IsWithin (Int number) = FitsSigned w64 number
-IsWithin (Words text) = (length text ≤ 256) × IsUtf8 text
+IsWithin (Words text) = (length text ≤ MAX_TEXT_LEN) × IsUtf8 text
 IsWithin (Bad fault) = Unit {0}
 
 -- the bytes are those of this value

@@ -6,6 +6,7 @@ use Rattle.std.specs.Str.{IsUtf8}
 use Rattle.svc_value.specs.declared.inside.Form.{Form}
 use Rattle.svc_value.specs.declared.inside.Form.TheVariants.{Any, Printed}
 use Rattle.svc_value.specs.Printed.{is_escaped}
+use Rattle.svc_value.specs.declared.limits.TheConstants.{MAX_TEXT_LEN}
 
 -- every form of a literal; the other form is that of printing
 abbrev pub any_form : Form
@@ -53,5 +54,5 @@ pub record IsQuoted (form : Form) (bytes text rest : List ℕ) : Type 0 where
   pub inside : List ℕ
   pub opening : bytes ≡ 34 ∷ inside
   pub spelled : Spells form inside text rest
-  pub most : length text ≤ 256
+  pub most : length text ≤ MAX_TEXT_LEN
   pub utf8 : IsUtf8 text

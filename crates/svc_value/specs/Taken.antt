@@ -7,6 +7,7 @@ use Rattle.svc_value.specs.declared.taken.ValueError.{ValueError}
 use Rattle.svc_value.specs.declared.taken.ValueError.TheVariants as error
 use Rattle.svc_value.specs.Layout.{IsLayoutOf}
 use Rattle.svc_value.specs.Prefix.{IsPlace}
+use Rattle.svc_value.specs.declared.limits.TheConstants.{MAX_TEXT_LEN}
 
 -- the bytes are those of some value
 abbrev pub IsValue : List ℕ → Type 0
@@ -41,4 +42,4 @@ IsRefusedValue bytes error.OutOfMemory = Unit {0}
 pub record HasTextLen (bytes : List ℕ) (len : ℕ) : Type 0 where
   pub both : 2 ≤ length bytes
   pub number : len ≡ slice_index bytes 0 * 256 + slice_index bytes 1
-  pub most : len ≤ 256
+  pub most : len ≤ MAX_TEXT_LEN

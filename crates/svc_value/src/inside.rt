@@ -51,7 +51,7 @@ pub(crate) fn read_quoted(
     text: &str,
     form: Form,
 ) -> Result<(ValueText, usize), LiteralError>
-    ensures { Gives (λ read. (read.0, read.1)) result (inside_at form (chars text.now) Inside.Open 256) }
+    ensures { Gives (λ read. (read.0, read.1)) result (inside_at form (chars text.now) Inside.Open MAX_TEXT_LEN) }
 {
     let mut words = String::with_capacity(alloc, text.len().min(MAX_TEXT_LEN))?;
     let mut inside = Inside::Open;

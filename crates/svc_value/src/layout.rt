@@ -4,6 +4,7 @@ ghost use Rattle.std.specs.Str.{IsUtf8};
 ghost use Rattle.std.specs.Int.{w16, w64, to_be_bytes, cast_unsigned};
 ghost use Rattle.svc_value.specs.Layout.{fault_code, layout, IsWithin};
 
+use crate::limits::MAX_TEXT_LEN;
 use crate::{Fault, OutOfMemory, Value, ValueText};
 
 /// Appends the bytes of `value`: a tag, and then a whole number in 8 bytes, a text behind its length in 2 bytes, or the
@@ -32,7 +33,7 @@ fn put_number(number: i64, out: &mut Vec<u8>) -> Result<(), OutOfMemory>
 
 fn put_text(text: &ValueText, out: &mut Vec<u8>) -> Result<(), OutOfMemory>
     ensures ok { OnOk result (out.new.items ≡ out.old.items ++ 2 ∷ to_be_bytes w16 (length text.now) ++ text.now) }
-    ensures within { (length text.now ≤ 256) × IsUtf8 text.now }
+    ensures within { (length text.now ≤ MAX_TEXT_LEN) × IsUtf8 text.now }
     ensures err { OnErr result (out.new.items ≡ out.old.items) }
 {
     let bytes = text.as_str().as_bytes();

@@ -6,6 +6,7 @@ mod digits;
 mod errors;
 mod inside;
 mod layout;
+pub mod limits;
 mod list;
 mod literal;
 mod memory_sink;

@@ -4,11 +4,9 @@ ghost use Rattle.std.specs.Str.{IsUtf8};
 ghost use Rattle.std.specs.String.{string_bytes, string_len};
 
 use crate::OutOfMemory;
+pub use crate::limits::MAX_TEXT_LEN;
 use std::alloc::Global;
 use std::marker::Model;
-
-/// The most bytes that a text has.
-pub const MAX_TEXT_LEN: usize = 256;
 
 /// A text of at most 256 bytes of UTF-8. Contracts see it as its bytes.
 #[derive(Debug, Drop)]
@@ -18,13 +16,14 @@ pub struct ValueText {
 
 impl Model for ValueText {
     ghost use Rattle.std.specs.Prelude.{List, ℕ, length, ◌≤◌};
+    ghost use Rattle.svc_value.specs.declared.limits.TheConstants.{MAX_TEXT_LEN};
     ghost use Rattle.std.specs.String.{string_bytes};
 
     ghost Value = { List ℕ };
 
     ghost view = { λ text. string_bytes text.text };
 
-    ghost invariant = { λ text. length (string_bytes text.text) ≤ 256 };
+    ghost invariant = { λ text. length (string_bytes text.text) ≤ MAX_TEXT_LEN };
 }
 
 /// Why a text is refused.
@@ -52,8 +51,8 @@ impl ValueText {
     /// bytes, with their number; `OutOfMemory` when memory runs out.
     pub fn new(alloc: Global, text: &str) -> Result<ValueText, TextError>
         ensures text { IfOk result (λ made. made ≡ text.now) }
-        ensures fits { IfOk result (λ _. length text.now ≤ 256) }
-        ensures too_long { IfErr result (λ e. (len : _) → e ≡ TextError.TooLong len → (len ≡ length text.now) × (256 < length text.now)) }
+        ensures fits { IfOk result (λ _. length text.now ≤ MAX_TEXT_LEN) }
+        ensures too_long { IfErr result (λ e. (len : _) → e ≡ TextError.TooLong len → (len ≡ length text.now) × (MAX_TEXT_LEN < length text.now)) }
     {
         if text.len() > MAX_TEXT_LEN {
             return Err(TextError::TooLong { len: text.len() });
@@ -63,7 +62,7 @@ impl ValueText {
 
     // The text with the characters of a text that is short enough.
     pub(crate) fn kept(alloc: Global, text: &str) -> Result<ValueText, OutOfMemory>
-        requires { length text.now ≤ 256 }
+        requires { length text.now ≤ MAX_TEXT_LEN }
         ensures { IfOk result (λ made. made ≡ text.now) }
     {
         Ok(ValueText {
@@ -73,7 +72,7 @@ impl ValueText {
 
     // The text with the characters of a text that is short enough.
     pub(crate) fn from_string(text: String) -> ValueText
-        requires { string_len text ≤ 256 }
+        requires { string_len text ≤ MAX_TEXT_LEN }
         ensures { result ≡ string_bytes text }
     {
         ValueText { text }
@@ -82,7 +81,7 @@ impl ValueText {
     /// The characters of the text.
     pub fn as_str(&self) -> &str
         ensures text { result.now ≡ self.now }
-        ensures fits { length self.now ≤ 256 }
+        ensures fits { length self.now ≤ MAX_TEXT_LEN }
         ensures utf8 { IsUtf8 self.now }
     {
         self.text.as_str()

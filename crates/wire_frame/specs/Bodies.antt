@@ -11,10 +11,11 @@ use Rattle.wire_frame.specs.Fields.{frame_fields}
 use Rattle.wire_frame.specs.Frames.{frame_bytes, IsWithinLayout, Fits}
 use Rattle.wire_frame.specs.Parts.{Part, chain, clock_part, byte_part, value_part}
 use Rattle.wire_frame.specs.Runs.{Items, run_part, key_items, clock_items, place_items}
+use Rattle.svc_value.specs.declared.limits.TheConstants.{MAX_SERVICES}
 
 -- items behind their number, which is at least so much and at most 64
 abbrev pub counted_items : {X : Type 0} → Items X → ℕ → Part (ℕ × List X)
-counted_items items least = chain (byte_part Count least 64) (λ count. run_part items 0 count)
+counted_items items least = chain (byte_part Count least MAX_SERVICES) (λ count. run_part items 0 count)
 
 -- an epoch, and something behind it
 abbrev pub under : {X : Type 0} → Part X → Part (ℕ × X)

@@ -9,6 +9,7 @@ use Rattle.wire_frame.specs.declared.frame.Announced.{Announced}
 use Rattle.wire_frame.specs.declared.frame.Cargo.{Cargo}
 use Rattle.wire_frame.specs.declared.frame.Delta.{Delta}
 use Rattle.wire_frame.specs.declared.place_clock.PlaceClock.{PlaceClock}
+use Rattle.svc_value.specs.declared.limits.TheConstants.{MAX_SERVICES}
 
 -- ---- the bytes
 
@@ -42,21 +43,21 @@ pairs clocks = map (λ named. (named.place, named.clock)) clocks
 pub record IsAnnounced (announced : Announced) : Type 0 where
   pub epoch : 1 ≤ announced.epoch
   pub some : 1 ≤ length announced.keys
-  pub most : length announced.keys ≤ 64
+  pub most : length announced.keys ≤ MAX_SERVICES
   pub rise : Rise 0 announced.keys
 
 -- an epoch of at least 1, and from 1 to 64 clocks of at least 1
 pub record IsCargo (cargo : Cargo) : Type 0 where
   pub epoch : 1 ≤ cargo.epoch
   pub some : 1 ≤ length cargo.clocks
-  pub most : length cargo.clocks ≤ 64
+  pub most : length cargo.clocks ≤ MAX_SERVICES
   pub clocks : All (λ clock. 1 ≤ clock) cargo.clocks
 
 -- an epoch of at least 1, and places below 64, strictly rising, with clocks of at least 1
 pub record IsDelta (delta : Delta) : Type 0 where
   pub epoch : 1 ≤ delta.epoch
   pub rise : RisePairs 0 (pairs delta.clocks)
-  pub below : All (λ named. named.place < 64) delta.clocks
+  pub below : All (λ named. named.place < MAX_SERVICES) delta.clocks
 
 -- the frame is within its layout
 abbrev pub IsWithinLayout : Frame → Type 0

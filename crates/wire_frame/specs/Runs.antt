@@ -5,6 +5,7 @@ use Rattle.wire_frame.specs.declared.reason.FrameReason.{FrameReason}
 use Rattle.wire_frame.specs.Fields.{key_fields, clock_fields, place_fields}
 use Rattle.wire_frame.specs.Frames.{u32_bytes, u16_bytes, place_clock}
 use Rattle.wire_frame.specs.Parts.{Part}
+use Rattle.svc_value.specs.declared.limits.TheConstants.{MAX_SERVICES}
 
 -- a kind of items: which of them can stand where the least is known and how many follow, the least after each, its bytes, and their fields
 pub record Items (X : Type 0) : Type 1 where
@@ -49,7 +50,7 @@ clock_items = record {
 -- places with their clocks: each place is above those before it, and leaves room for those behind it
 abbrev pub place_items : Items PlaceClock
 place_items = record {
-  Good = λ least left named. ((least ≤ named.place) × (named.place + left < 64)) × ((1 ≤ named.clock) × (named.clock < 2 ^ 32));
+  Good = λ least left named. ((least ≤ named.place) × (named.place + left < MAX_SERVICES)) × ((1 ≤ named.clock) × (named.clock < 2 ^ 32));
   least_after = λ named. suc named.place;
   bytes = place_clock;
   fields = λ _. place_fields;

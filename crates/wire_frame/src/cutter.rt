@@ -4,6 +4,7 @@ use crate::front::{TooLong, front_item};
 use crate::shift::drop_front;
 use std::alloc::Global;
 use std::marker::Model;
+use svc_value::limits::MAX_FRAME_LEN;
 use svc_value::{Bytes, OutOfMemory};
 
 /// A stream of items, each after its length as two bytes, that comes in any pieces. Contracts see the bytes that were
@@ -131,7 +132,7 @@ impl Cutter {
 
     /// Goes past an item of `size` bytes and its length.
     pub(crate) fn pass(&mut self, size: usize)
-        requires fits { size ≤ 585 }
+        requires fits { size ≤ MAX_FRAME_LEN }
         requires there { size + 2 ≤ length self.old.held }
         ensures held { self.new.held ≡ drop (size + 2) self.old.held }
         ensures offset { self.new.offset ≡ past self.old.offset (size + 2) }

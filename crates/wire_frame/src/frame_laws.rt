@@ -10,6 +10,8 @@ ghost use Rattle.wire_frame.specs.Stream.{IsPartial};
 ghost use Rattle.wire_frame.specs.Taking.{IsAtFront, IsBadFrame};
 ghost use Rattle.wire_frame.specs.declared.reason.FrameReason.{FrameReason};
 
+use svc_value::limits::MAX_FRAME_LEN;
+
 /// A frame has one list of bytes, no two frames have the same, and none begins another.
 pub fn frames_are_told()
     ensures one { (frame : AnyFrame) (a b : List ℕ) → FrameOf frame a → FrameOf frame b → a ≡ b }
@@ -20,7 +22,7 @@ pub fn frames_are_told()
 
 /// A frame has at most 585 bytes.
 pub fn frames_are_short()
-    ensures { (frame : AnyFrame) (bytes : List ℕ) → FrameOf frame bytes → length bytes ≤ 585 }
+    ensures { (frame : AnyFrame) (bytes : List ℕ) → FrameOf frame bytes → length bytes ≤ MAX_FRAME_LEN }
 {}
 
 /// The frame in front of some bytes is the only one, and there is none where the bytes are bad; bad bytes have one place

@@ -2,9 +2,7 @@
 ghost use Rattle.std.specs.Prelude.{◌≡◌, IfOk, IfSome, IfErr, Ok, None};
 ghost use Rattle.wire_frame.specs.Stream.{IsFront, IsPartial, IsTooLong};
 
-/// The most bytes that an item has.
-pub(crate) const MAX_FRAME_LEN: usize = 585;
-
+use svc_value::limits::MAX_FRAME_LEN;
 /// The length in front is above that of the longest item.
 #[derive(Clone, Copy)]
 pub(crate) struct TooLong;

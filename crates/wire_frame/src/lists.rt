@@ -8,6 +8,7 @@ use crate::numbers::{read_byte, read_clock, read_key};
 use crate::{FrameError, FrameReason, KeysRef, PlaceClock, PlacesRef};
 use std::alloc::Global;
 use svc_value::Clocks;
+use svc_value::limits::MAX_SERVICES;
 
 /// The most keys, clocks or places of a frame.
 const MAX_ITEMS: u8 = 64;
@@ -54,7 +55,7 @@ pub(crate) fn read_places(bytes: &[u8], at: usize) -> Result<(PlacesRef<'_>, usi
 // The `count` keys from `at` on, strictly rising, lent.
 fn keys_of(bytes: &[u8], at: usize, count: u8) -> Result<KeysRef<'_>, FrameError>
     requires there { at ≤ length bytes.now }
-    requires most { count ≤ 64 }
+    requires most { count ≤ MAX_SERVICES }
     ensures keys { IfOk result (λ keys. Stands (run_part key_items 0 count) keys bytes.now at (at + 2 * count)) }
     ensures bad { IfErr result (λ e. Fails (run_part key_items 0 count) bytes.now at e) }
     ensures memory { IfErr result (λ e. e ≢ FrameError.OutOfMemory) }
@@ -73,7 +74,7 @@ fn keys_of(bytes: &[u8], at: usize, count: u8) -> Result<KeysRef<'_>, FrameError
 // The `count` clocks from `at` on.
 fn clocks_of(alloc: Global, bytes: &[u8], at: usize, count: u8) -> Result<Clocks, FrameError>
     requires there { at ≤ length bytes.now }
-    requires most { count ≤ 64 }
+    requires most { count ≤ MAX_SERVICES }
     ensures clocks { IfOk result (λ clocks. Stands (run_part clock_items 0 count) clocks bytes.now at (at + 4 * count)) }
     ensures bad { IfErr result (λ e. Fails (run_part clock_items 0 count) bytes.now at e) }
 {
@@ -90,7 +91,7 @@ fn clocks_of(alloc: Global, bytes: &[u8], at: usize, count: u8) -> Result<Clocks
 // The `count` places with their clocks from `at` on, strictly rising, lent.
 fn places_of(bytes: &[u8], at: usize, count: u8) -> Result<PlacesRef<'_>, FrameError>
     requires there { at ≤ length bytes.now }
-    requires most { count ≤ 64 }
+    requires most { count ≤ MAX_SERVICES }
     ensures places { IfOk result (λ clocks. Stands (run_part place_items 0 count) clocks bytes.now at (at + 5 * count)) }
     ensures bad { IfErr result (λ e. Fails (run_part place_items 0 count) bytes.now at e) }
 {
@@ -108,7 +109,7 @@ fn places_of(bytes: &[u8], at: usize, count: u8) -> Result<PlacesRef<'_>, FrameE
 // The place at `at`, from `least` on and with room for `left` places above it, and its clock.
 fn read_place(bytes: &[u8], at: usize, least: u8, left: u8) -> Result<PlaceClock, FrameError>
     requires there { at ≤ length bytes.now }
-    requires room { least + left < 64 }
+    requires room { least + left < MAX_SERVICES }
     ensures named { IfOk result (λ named. Stands (item_part place_items least left) named bytes.now at (at + 5)) }
     ensures bad { IfErr result (λ e. Fails (item_part place_items least left) bytes.now at e) }
 {

@@ -3,6 +3,7 @@ ghost use Rattle.std.specs.Prelude.{◌≡◌, ◌+◌, ◌*◌, ◌<◌, ◌≤
 ghost use Rattle.wire_frame.specs.Frames.{u32_bytes, u16_bytes, place_clock};
 
 use crate::PlaceClock;
+use svc_value::limits::MAX_SERVICES;
 use svc_value::{Clock, OutOfMemory, ServiceId};
 
 /// Appends `n` in 4 bytes, for which there is room.
@@ -45,7 +46,7 @@ fn put_place_clock(named: PlaceClock, out: &mut Vec<u8>)
 
 /// Appends keys behind their number. `OutOfMemory` leaves the list as it was.
 pub(crate) fn put_keys(keys: &[ServiceId], out: &mut Vec<u8>) -> Result<(), OutOfMemory>
-    requires { length keys.now ≤ 64 }
+    requires { length keys.now ≤ MAX_SERVICES }
     ensures ok { OnOk result (out.new.items ≡ out.old.items ++ length keys.now ∷ flat_map u16_bytes keys.now) }
     ensures fits { OnOk result (All (λ key. key < 2 ^ 16) keys.now) }
     ensures err { OnErr result (out.new.items ≡ out.old.items) }
@@ -60,7 +61,7 @@ pub(crate) fn put_keys(keys: &[ServiceId], out: &mut Vec<u8>) -> Result<(), OutO
 
 /// Appends clocks behind their number. `OutOfMemory` leaves the list as it was.
 pub(crate) fn put_clocks(clocks: &[Clock], out: &mut Vec<u8>) -> Result<(), OutOfMemory>
-    requires { length clocks.now ≤ 64 }
+    requires { length clocks.now ≤ MAX_SERVICES }
     ensures ok { OnOk result (out.new.items ≡ out.old.items ++ length clocks.now ∷ flat_map u32_bytes clocks.now) }
     ensures fits { OnOk result (All (λ clock. clock < 2 ^ 32) clocks.now) }
     ensures err { OnErr result (out.new.items ≡ out.old.items) }
@@ -75,7 +76,7 @@ pub(crate) fn put_clocks(clocks: &[Clock], out: &mut Vec<u8>) -> Result<(), OutO
 
 /// Appends places with their clocks behind their number. `OutOfMemory` leaves the list as it was.
 pub(crate) fn put_place_clocks(clocks: &[PlaceClock], out: &mut Vec<u8>) -> Result<(), OutOfMemory>
-    requires { length clocks.now ≤ 64 }
+    requires { length clocks.now ≤ MAX_SERVICES }
     ensures ok { OnOk result (out.new.items ≡ out.old.items ++ length clocks.now ∷ flat_map place_clock clocks.now) }
     ensures fits { OnOk result (All (λ named. named.clock < 2 ^ 32) clocks.now) }
     ensures err { OnErr result (out.new.items ≡ out.old.items) }

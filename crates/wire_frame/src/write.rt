@@ -5,6 +5,7 @@ ghost use Rattle.wire_frame.specs.Frames.{u32_bytes, u16_bytes, place_clock, fra
 
 use crate::put::{put_clocks, put_keys, put_place_clocks, put_word};
 use crate::{Cargo, Frame, PlaceClock};
+use svc_value::limits::MAX_SERVICES;
 use svc_value::{Clock, OutOfMemory, ServiceId, Value, put_value};
 
 /// Appends the bytes of `frame`, which is within its layout. After `OutOfMemory` `out` is as it was.
@@ -83,7 +84,7 @@ fn write_cargo(cargo: &Cargo, out: &mut Vec<u8>) -> Result<(), OutOfMemory>
 
 // Appends a frame of keys; after `OutOfMemory` some of its bytes may stand behind those of before.
 fn put_announced(epoch: Clock, keys: &[ServiceId], out: &mut Vec<u8>) -> Result<(), OutOfMemory>
-    requires { length keys.now ≤ 64 }
+    requires { length keys.now ≤ MAX_SERVICES }
     ensures ok { OnOk result (out.new.items ≡ out.old.items ++
         frame_bytes (Sources (record { epoch = epoch; keys = keys.now }))) }
     ensures fits { OnOk result (Fits (Sources (record { epoch = epoch; keys = keys.now }))) }
@@ -112,7 +113,7 @@ fn put_delta(
     clocks: &[PlaceClock],
     out: &mut Vec<u8>,
 ) -> Result<(), OutOfMemory>
-    requires { length clocks.now ≤ 64 }
+    requires { length clocks.now ≤ MAX_SERVICES }
     ensures ok { OnOk result (out.new.items ≡ out.old.items ++
         frame_bytes (Changed (record { epoch = epoch; value = value.now; clocks = clocks.now }))) }
     ensures fits { OnOk result (Fits (Changed (record { epoch = epoch; value = value.now; clocks = clocks.now }))) }

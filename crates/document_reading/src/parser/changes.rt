@@ -14,6 +14,7 @@ use crate::statement::Body;
 use svc_graph::Change;
 use svc_plan::PlanChange;
 use svc_token::NameRef;
+use svc_value::limits::MAX_DOCUMENT_LEN;
 use svc_value::{ServiceId, Value};
 
 impl Parser {
@@ -33,7 +34,7 @@ impl Parser {
     // A change. A copy of it goes into the book.
     pub(super) fn make(&mut self, id: ServiceId, change: Change) -> Result<(), LineError>
         requires form { IsChangeOf self.old.book id change }
-        requires lines { self.old.lines ≤ 1048576 }
+        requires lines { self.old.lines ≤ MAX_DOCUMENT_LEN }
         ensures answers { RefusesExactly result (change_code (state self.old) id change) }
         ensures taken { OnOk result (state self.new ≡ with_change (state self.old) id change) }
         ensures mode { OnOk result (self.new.mode ≡ self.old.mode) }

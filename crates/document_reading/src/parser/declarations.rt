@@ -14,10 +14,8 @@ use crate::statement::Body;
 use svc_graph::{Change, Definition, MAX_SERVICES};
 use svc_plan::ServiceLine;
 use svc_token::NameRef;
+use svc_value::limits::MAX_RANK;
 use svc_value::{Name, Rank, ServiceId, Value, ValueType};
-
-/// The highest rank.
-const MAX_RANK: u64 = 1000;
 
 // The rank of a derived service.
 fn rank_of(rank: u64) -> Result<Rank, LineError>
@@ -51,7 +49,7 @@ impl Parser {
         rank: Rank,
         ty: ValueType,
     ) -> Result<ServiceId, LineError>
-        requires rank { rank ≤ 1000 }
+        requires rank { rank ≤ MAX_RANK }
         requires new { name_code self.old.book name.now ≡ None }
         ensures number { IfOk result (λ id. id ≡ length self.old.book) }
         ensures answers { RefusesExactly result None }

@@ -10,11 +10,12 @@ use crate::parser::Parser;
 use crate::refusal::Code;
 use svc_plan::{Mode, StepEvent, StepLine};
 use svc_token::NameRef;
+use svc_value::limits::MAX_DOCUMENT_LEN;
 
 impl Parser {
     // A step line whose names are declared.
     fn step(&mut self, event: StepEvent) -> Result<(), LineError>
-        requires { self.old.lines ≤ 1048576 }
+        requires { self.old.lines ≤ MAX_DOCUMENT_LEN }
         ensures answers { RefusesExactly result (step_code self.old.mode (state self.old)) }
         ensures taken { OnOk result (state self.new ≡ with_step (state self.old) event) }
         ensures mode { OnOk result (self.new.mode ≡ self.old.mode) }
@@ -35,7 +36,7 @@ impl Parser {
 
     // The next change of a service.
     pub(super) fn do_next(&mut self, name: &NameRef<'_>) -> Result<(), LineError>
-        requires { self.old.lines ≤ 1048576 }
+        requires { self.old.lines ≤ MAX_DOCUMENT_LEN }
         ensures answers { RefusesExactly result (refusal self.old.mode (state self.old) (says.Do name.now)) }
         ensures taken { OnOk result (state self.new ≡ next (state self.old) (says.Do name.now)) }
         ensures mode { OnOk result (self.new.mode ≡ self.old.mode) }
@@ -50,7 +51,7 @@ impl Parser {
         reader: &NameRef<'_>,
         sender: &NameRef<'_>,
     ) -> Result<(), LineError>
-        requires { self.old.lines ≤ 1048576 }
+        requires { self.old.lines ≤ MAX_DOCUMENT_LEN }
         ensures answers { RefusesExactly result (refusal self.old.mode (state self.old) (says.Take reader.now sender.now)) }
         ensures taken { OnOk result (state self.new ≡ next (state self.old) (says.Take reader.now sender.now)) }
         ensures mode { OnOk result (self.new.mode ≡ self.old.mode) }
@@ -62,7 +63,7 @@ impl Parser {
 
     // One turn of a service.
     pub(super) fn turn(&mut self, name: &NameRef<'_>) -> Result<(), LineError>
-        requires { self.old.lines ≤ 1048576 }
+        requires { self.old.lines ≤ MAX_DOCUMENT_LEN }
         ensures answers { RefusesExactly result (refusal self.old.mode (state self.old) (says.Turn name.now)) }
         ensures taken { OnOk result (state self.new ≡ next (state self.old) (says.Turn name.now)) }
         ensures mode { OnOk result (self.new.mode ≡ self.old.mode) }

@@ -14,6 +14,7 @@ use crate::slots::{begin_all, inputs_of};
 use stamp_match::Choice;
 use std::sync::ledger::Ledger;
 use svc_graph::{Change, Roster};
+use svc_value::limits::{MAX_CLOCK, MAX_SERVICES};
 use svc_value::{Bytes, Clock, ServiceId, Steps};
 
 impl Node {
@@ -73,10 +74,10 @@ impl Node {
     pub fn begin_leg(&mut self, roster: Roster, changes: Vec<Change>)
         requires done { self.old.state.left ≡ [] }
         requires log { self.old.entries ≡ [] }
-        requires few { length roster ≤ 64 }
+        requires few { length roster ≤ MAX_SERVICES }
         requires known { self.old.state.id < length roster }
         requires accepted { (d : TheDefinition) → Has (coming self.old.state.definition changes.items) d → IsDefinitionOf roster self.old.state.id d }
-        requires clock { self.old.state.own + length changes.items ≤ 1024000 }
+        requires clock { self.old.state.own + length changes.items ≤ MAX_CLOCK }
         ensures { self.new ≡ record self.old { state = opened_with (coming self.old.state.definition changes.items) self.old.state; roster = roster; changes = changes.items } }
     {
         begin_all(&mut self.slots);

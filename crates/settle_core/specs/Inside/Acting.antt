@@ -14,6 +14,7 @@ use Rattle.node_core.specs.Entries.{Extends, sent_to}
 use Rattle.node_core.specs.Ranks.{rank_in, typed_in}
 use Rattle.node_core.specs.View.{NodeView}
 use Rattle.settle_core.specs.Net.{service_at, took_from, place_of, waits}
+use Rattle.svc_value.specs.declared.limits.TheConstants.{MAX_CLOCK, MAX_SERVICES}
 
 -- what these entries of service n took from the link of k and p
 abbrev pub gone : ℕ → List Entry → ℕ → ℕ → List (List ℕ)
@@ -34,7 +35,7 @@ pub record NodeActs (n : ℕ) (after : State Value Definition) (step : List (The
   pub more : List Entry
   pub entries : new.entries ≡ old.entries ++ more
   pub says : (log : List (TheEntry Value)) → Extends log more (step log)
-  pub carried : (k p : ℕ) → p < 64 → gone n more k p ++ waits links' k p ≡ waits links k p ++ came n more k p
+  pub carried : (k p : ℕ) → p < MAX_SERVICES → gone n more k p ++ waits links' k p ≡ waits links k p ++ came n more k p
 
 -- the other nodes are as they were
 pub record Acts (n : ℕ) (after : State Value Definition) (step : List (TheEntry Value) → List (TheEntry Value)) (old new : List NodeView) (links links' : List (List (List ℕ))) : Type 0 where
@@ -48,7 +49,7 @@ HaveLinks n count services = (q : ℕ) → Has services q → place_of q n < cou
 
 -- what an event of a node rests on: its number, and that nothing is left in its outbox
 pub record IsReady (n : ℕ) (node : NodeView) : Type 0 where
-  pub number : n < 64
+  pub number : n < MAX_SERVICES
   pub handed : node.outbox ≡ []
 
 -- a turn: the readers differ, and have links
@@ -61,7 +62,7 @@ pub record CanTurn (n : ℕ) (node : NodeView) (count : ℕ) : Type 0 where
 pub record CanDo (n : ℕ) (node : NodeView) (history : List Definition) (count : ℕ) : Type 0 where
   pub ready : IsReady n node
   pub next : at_clock history (suc node.state.own) ≡ slice_get node.state.left 0
-  pub clock : node.state.own ≤ 1024000
+  pub clock : node.state.own ≤ MAX_CLOCK
   pub apart : AreDistinct (targets node.state.edges)
   pub edges : HaveLinks n count (targets node.state.edges)
   pub next_apart : (d : Definition) → slice_get node.state.left 0 ≡ Some d → AreDistinct (dependencies d)
@@ -80,7 +81,7 @@ Expects n p node links = (bytes : List ℕ) (rest : List (List ℕ)) → waits l
 -- a frame taken: both links are there, and the first frame is accepted
 pub record CanTake (n p : ℕ) (node : NodeView) (links : List (List (List ℕ))) : Type 0 where
   pub ready : IsReady n node
-  pub sender : p < 64
+  pub sender : p < MAX_SERVICES
   pub from : place_of n p < length links
   pub to : place_of p n < length links
   pub expects : Expects n p node links

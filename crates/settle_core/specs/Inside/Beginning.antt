@@ -14,6 +14,7 @@ use Rattle.settle_core.specs.declared.opening.LegPart.{LegPart}
 use Rattle.settle_core.specs.Net.{NetworkView, service_at}
 use Rattle.settle_core.specs.Opening.{changes_of, opened_node}
 use Rattle.settle_core.specs.Inside.Table.{waiting_in}
+use Rattle.svc_value.specs.declared.limits.TheConstants.{MAX_CLOCK, MAX_SERVICES}
 
 -- the part of a service that is not there
 abbrev pub blank : LegPart
@@ -35,10 +36,10 @@ pub record AddsChange (next : PlanChange) (old new : List LegPart) : Type 0 wher
 pub record CanBegin (s : NodeView) (part : LegPart) : Type 0 where
   pub rest : AtRest s.state
   pub handed : s.outbox ≡ []
-  pub few : length part.roster ≤ 64
+  pub few : length part.roster ≤ MAX_SERVICES
   pub known : s.state.id < length part.roster
   pub accepted : (d : Definition) → Has (coming s.state.definition part.changes) d → IsDefinitionOf part.roster s.state.id d
-  pub clock : s.state.own + length part.changes ≤ 1024000
+  pub clock : s.state.own + length part.changes ≤ MAX_CLOCK
 
 -- each of these nodes can, with its part
 abbrev pub EachCanBegin : List NodeView → List LegPart → Type 0

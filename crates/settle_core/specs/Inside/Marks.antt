@@ -3,6 +3,7 @@ use Rattle.std.specs.Prelude.{◌≡◌, ◌≢◌, ℕ, ◌+◌, ◌*◌, ◌/�
 use Rattle.std.specs.Int.{bit_at}
 use Rattle.link_fifo.specs.Waiting.{Link}
 use Rattle.settle_core.specs.Inside.Table.{no_link}
+use Rattle.svc_value.specs.declared.limits.TheConstants.{MAX_SERVICES}
 
 -- the links, and for how many more, and for how many words more, there is room
 pub record Wires : Type 0 where
@@ -33,7 +34,7 @@ pub record Marks (place bit : ℕ) (old new : List ℕ) : Type 0 where
   pub table : new ≡ slice_set old (place / 64) word
   pub fits : word < 18446744073709551616
   pub here : bit_at word (place % 64) ≡ bit
-  pub others : (i : ℕ) → i < 64 → i ≢ place % 64 → bit_at word i ≡ bit_at (slice_index_or old (place / 64) 0) i
+  pub others : (i : ℕ) → i < MAX_SERVICES → i ≢ place % 64 → bit_at word i ≡ bit_at (slice_index_or old (place / 64) 0) i
 
 -- so many words more, without bits
 pub record MoreWords (more : ℕ) (old new : List ℕ) : Type 0 where

@@ -10,6 +10,7 @@ use super::Book;
 use crate::checks::kind_of;
 use crate::{DefinitionRef, Kind};
 use std::alloc::{AllocError, Global};
+use svc_value::limits::MAX_SERVICES;
 use svc_value::{Ids, OutOfMemory, ServiceId};
 
 // Two lists of services, one after the other.
@@ -37,7 +38,7 @@ fn dependencies(alloc: Global, last: Option<DefinitionRef<'_>>) -> Result<Ids, O
 
 // The numbers of the first services.
 fn first_services(alloc: Global, count: usize) -> Result<Vec<ServiceId>, AllocError>
-    requires { count ≤ 64 }
+    requires { count ≤ MAX_SERVICES }
     ensures { IfOk result (λ ids. ids.items ≡ range_with_len 0 count) }
 {
     let mut ids = Vec::with_capacity(alloc, count)?;

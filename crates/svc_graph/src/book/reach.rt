@@ -9,8 +9,8 @@ use svc_value::{Ids, OutOfMemory, ServiceId};
 
 // The mark of one service.
 fn one_mark(id: ServiceId) -> [bool; MAX_SERVICES]
-    requires { id < 64 }
-    ensures len { length result ≡ 64 }
+    requires { id < MAX_SERVICES }
+    ensures len { length result ≡ MAX_SERVICES }
     ensures mark { (q : ℕ) → slice_index_or result q false ≡ (q == id) }
 {
     let mut marks = [false; MAX_SERVICES];
@@ -34,7 +34,7 @@ fn marked_services(
     marks: &[bool],
     count: usize,
 ) -> Result<Vec<ServiceId>, AllocError>
-    requires few { count ≤ 64 }
+    requires few { count ≤ MAX_SERVICES }
     requires within { count ≤ length marks.now }
     ensures { IfOk result (λ ids. ids.items ≡ filter (λ p. slice_index_or marks.now p false) (range_with_len 0 count)) }
 {
@@ -57,7 +57,7 @@ impl Book {
     fn mark_below(&self, reader: ServiceId, marks: &mut [bool]) -> Result<(), OutOfMemory>
         requires declared { reader < length self.now }
         requires book { IsBook self.now }
-        requires room { length marks.old ≡ 64 }
+        requires room { length marks.old ≡ MAX_SERVICES }
         ensures { OnOk result ((q : ℕ) → slice_index_or marks.new q false ≡ (slice_index_or marks.old q false || (slice_index_or marks.old reader false && is_among (deps (theory self.now) reader (now (theory self.now) reader)) q))) }
     {
         if marks[place(reader)] {
