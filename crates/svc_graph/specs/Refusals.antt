@@ -1,10 +1,11 @@
 -- When a change is refused. The tests stand in the order in which they are made; each speaks of the ranks and types of all
 -- services, of the service that is changed and of its last definition.
-use Rattle.std.specs.Prelude.{ℕ, ◌+◌, ◌==◌, Bool, false, not, ◌&&◌, ◌||◌, nat_lt, nat_le, if◌then◌else◌, List, [], ◌∷◌, map, length, slice_index_or, Option, Some, None}
+use Rattle.std.specs.Prelude.{◌≡◌, ℕ, ◌+◌, ◌==◌, Bool, false, not, ◌&&◌, ◌||◌, nat_lt, nat_le, if◌then◌else◌, List, [], ◌∷◌, map, length, slice_index_or, Option, Some, None}
 use Rattle.std.specs.List.{list_any}
 use Rattle.propagation.specs.Lists.{is_among}
 use Rattle.svc_expr.specs.Tree.{tree_of}
 use Rattle.svc_expr.specs.Types.{takes_numbers, type_in, is_same}
+use Rattle.svc_graph.specs.Accepting.{IsChangeOf}
 use Rattle.svc_graph.specs.declared.definition.Change.{Change}
 use Rattle.svc_graph.specs.declared.definition.Change.TheVariants.{Birth, Set, Add, Drop, Define}
 use Rattle.svc_graph.specs.declared.definition.Definition.{Definition}
@@ -151,3 +152,8 @@ first_error kinds n last change =
 -- why a change of service n is refused where these are the rows, if it is
 abbrev pub refusal_of : List Row → ℕ → Change → Option ChangeError
 refusal_of rows n change = first_error (roster_of rows) n (present (history_of rows n)) change
+
+-- a book accepts the change: it is one of its service, and no test holds of it
+pub record AcceptsChange (rows : List Row) (n : ℕ) (change : Change) : Type 0 where
+  pub form : IsChangeOf rows n change
+  pub passes : refusal_of rows n change ≡ None

@@ -1,5 +1,5 @@
 // The names, ranks, types and histories of all services.
-ghost use Rattle.std.specs.Prelude.{◌≡◌, ◌≤◌, ◌<◌, ◌++◌, ◌∷◌, ◌↔◌, ◌≢◌, None, Some, [], length, position, vec_len, vec_capacity, IsSome, IsNone, IsErrOf, IfOk, IfErr, OnOk, OnErr};
+ghost use Rattle.std.specs.Prelude.{◌≡◌, ◌≤◌, ◌<◌, ◌++◌, ◌∷◌, ◌↔◌, ◌≢◌, None, Some, [], length, position, IsSome, IsNone, IsErrOf, IfOk, IfErr, OnOk, OnErr};
 ghost use Rattle.std.specs.Str.{bytes_eq};
 ghost use Rattle.svc_graph.specs.Columns.{bytes_of};
 
@@ -61,20 +61,10 @@ fn insert(alloc: Global, names: &mut IndexSet<String>, name: &str) -> Result<(),
     Ok(())
 }
 
-// Appends an item for which there is room.
-fn push_reserved<T: Drop>(items: &mut Vec<T>, item: T)
-    requires { vec_len items.old < vec_capacity items.old }
-    ensures { items.new.items ≡ items.old.items ++ item ∷ [] }
-{
-    if items.push(item).is_err() {
-        unreachable!()
-    }
-}
-
 impl Book {
     ghost use Rattle.svc_graph.specs.Accepting.{IsChangeOf};
     ghost use Rattle.svc_graph.specs.Book.{IsBook};
-    ghost use Rattle.svc_graph.specs.Refusals.{refusal_of};
+    ghost use Rattle.svc_graph.specs.Refusals.{AcceptsChange, refusal_of};
     ghost use Rattle.svc_graph.specs.History.{rows_after_change, declared_row, history_of, kind_of, find_service, roster_of, row_at};
 
     /// The book without services, which takes its memory from `alloc`.
@@ -113,11 +103,12 @@ impl Book {
         if self.len() >= MAX_SERVICES {
             return Err(DeclareError::Full);
         }
-        Ok(self.append(name, Kind { rank, ty })?)
+        Ok(self.add_service(name, Kind { rank, ty })?)
     }
 
-    // Appends a row without a definition.
-    fn append(&mut self, name: &str, kind: Kind) -> Result<ServiceId, OutOfMemory>
+    /// Declares a service as `declare` does, where it is known that this name is not declared and that there is room. No test is
+    /// made; `OutOfMemory` leaves the book as it was.
+    pub fn add_service(&mut self, name: &str, kind: Kind) -> Result<ServiceId, OutOfMemory>
         requires new { IsNone (find_service self.old name.now) }
         requires room { length self.old < MAX_SERVICES }
         requires rank { kind.rank ≤ MAX_RANK }
@@ -129,8 +120,8 @@ impl Book {
         self.kinds.reserve(1)?;
         self.histories.reserve(1)?;
         insert(self.alloc, &mut self.names, name)?;
-        push_reserved(&mut self.kinds, kind);
-        push_reserved(&mut self.histories, History::new(self.alloc));
+        self.kinds.push_reserved(kind);
+        self.histories.push_reserved(History::new(self.alloc));
         Ok(ServiceId(number as u16))
     }
 
@@ -146,7 +137,7 @@ impl Book {
         ensures err { OnErr result (self.new ≡ self.old) }
     {
         self.test(id, &change)?;
-        Ok(self.grow(id, change)?)
+        Ok(self.apply(id, change)?)
     }
 
     // Makes all tests of a change.
@@ -159,10 +150,10 @@ impl Book {
         check(self.alloc, self.kinds.as_slice(), id, last, change)
     }
 
-    // Appends the definition that a change brings of which no test holds.
-    fn grow(&mut self, id: ServiceId, change: Change) -> Result<(), OutOfMemory>
-        requires form { IsChangeOf self.old id change }
-        requires passes { refusal_of self.old id change ≡ None }
+    /// Makes a change of the service `id` as `accept` does, where it is known that it is accepted. No test is made; `OutOfMemory`
+    /// leaves the book as it was, and the change is dropped.
+    pub fn apply(&mut self, id: ServiceId, change: Change) -> Result<(), OutOfMemory>
+        requires { AcceptsChange self.old id change }
         ensures ok { OnOk result (self.new ≡ rows_after_change self.old id change) }
         ensures err { OnErr result (self.new ≡ self.old) }
     {

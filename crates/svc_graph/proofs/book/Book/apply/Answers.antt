@@ -5,8 +5,8 @@ use Rattle.svc_graph.specs.Accepting.{IsChangeOf}
 use Rattle.svc_graph.specs.Columns.{bytes_of, rows_of}
 use Rattle.svc_graph.specs.History.{history_of}
 use Rattle.svc_graph.specs.Refusals.{refusal_of}
-use Rattle.svc_graph.proofs.book.Book.grow.Goals as goal
-use Rattle.svc_graph.proofs.book.Book.grow.Goals.{After-place, After-index_mut-history}
+use Rattle.svc_graph.proofs.book.Book.apply.Goals as goal
+use Rattle.svc_graph.proofs.book.Book.apply.Goals.{After-place, After-index_mut-history}
 
 -- the service has a name
 named : (c : After-place) → c.args.id < length (bytes_of c.self.inside.names.keys)
