@@ -68,6 +68,16 @@ fn lent<'a>(bodies: &'a [Body], version: &'a Version) -> DefinitionRef<'a>
     }
 }
 
+// The members and one more.
+fn one_more(alloc: Global, members: &[ServiceId], member: ServiceId) -> Result<Ids, OutOfMemory>
+    ensures { IfOk result (λ more. more ≡ members.now ++ member ∷ []) }
+{
+    let mut more = Vec::with_capacity(alloc, members.len().saturating_add(1))?;
+    more.extend_from_slice(members)?;
+    more.push(member)?;
+    Ok(Ids::from_vec(more))
+}
+
 // A version with one member more.
 fn with_member(alloc: Global, version: &Version, member: ServiceId) -> Result<Version, OutOfMemory>
     ensures { IfOk result (λ next. next ≡ with_member version.now member) }
@@ -75,9 +85,7 @@ fn with_member(alloc: Global, version: &Version, member: ServiceId) -> Result<Ve
     Ok(match version {
         Version::Input(value) => Version::Input(value.copy()?),
         Version::Derived(number, members) => {
-            let mut members = Ids::from_slice(alloc, members.as_slice())?;
-            members.push(member)?;
-            Version::Derived(*number, members)
+            Version::Derived(*number, one_more(alloc, members.as_slice(), member)?)
         }
     })
 }

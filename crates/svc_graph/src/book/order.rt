@@ -17,7 +17,8 @@ use svc_value::{Ids, OutOfMemory, ServiceId};
 fn concatenation(alloc: Global, front: &[ServiceId], back: &[ServiceId]) -> Result<Ids, OutOfMemory>
     ensures { IfOk result (λ ids. ids ≡ front.now ++ back.now) }
 {
-    let mut ids = Vec::from_slice(alloc, front)?;
+    let mut ids = Vec::with_capacity(alloc, front.len().saturating_add(back.len()))?;
+    ids.extend_from_slice(front)?;
     ids.extend_from_slice(back)?;
     Ok(Ids::from_vec(ids))
 }
@@ -43,7 +44,7 @@ fn first_services(alloc: Global, count: usize) -> Result<Vec<ServiceId>, AllocEr
 {
     let mut ids = Vec::with_capacity(alloc, count)?;
     for number in 0..count {
-        ids.push(ServiceId(number as u16))?;
+        ids.push_reserved(ServiceId(number as u16));
     }
     Ok(ids)
 }
