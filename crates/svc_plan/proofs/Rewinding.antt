@@ -1,13 +1,15 @@
 -- What a leg adds to the rows one by one, and that what was there before is found again.
-use Rattle.std.proofs.Common.{◌≡◌, ℕ, zero, suc, ◌+◌, ◌<◌, List, [], ◌∷◌, ◌++◌, map, length, take, drop, get_or, refl, sym, ap, ap₂, ◌∙◌, subst, arith, append_assoc, add-one}
-use Rattle.std.proofs.lemmas.List.{take-append-le, length-append}
+use Rattle.std.proofs.Common.{◌≡◌, ℕ, zero, suc, ◌+◌, ◌<◌, List, [], ◌∷◌, ◌++◌, map, length, take, drop, get_or, refl, sym, ap, ap₂, ◌∙◌, ◌≤◌, set, inl, inr, subst, arith, append_assoc, add-one}
+use Rattle.std.proofs.lemmas.Bool.{cases_eq}
+use Rattle.std.proofs.lemmas.List.{take-append-le, length-append, get_or-set_same, get_or-set_other}
 use Rattle.std.proofs.Math.Seq.{take-length}
 use Rattle.svc_graph.specs.declared.definition.Change.{Change}
-use Rattle.svc_graph.specs.History.{Row, present, definitions_brought, rows_after_change}
+use Rattle.svc_graph.specs.History.{Row, history_of, present, definitions_brought, rows_after_change}
 use Rattle.svc_plan.specs.declared.plan.PlanChange.{PlanChange}
 use Rattle.svc_plan.specs.declared.plan.ServiceLine.{ServiceLine}
 use Rattle.svc_plan.specs.Rows.{row_of}
-use Rattle.svc_plan.specs.Rows.{with_services, with_changes, AreServicesAfter, IsServiceAfter, AreAcceptedAfter, AcceptsChange}
+use Rattle.svc_graph.specs.Refusals.{AcceptsChange}
+use Rattle.svc_plan.specs.Rows.{with_services, with_changes, AreServicesAfter, IsServiceAfter, AreAcceptedAfter}
 use Rattle.svc_plan.specs.Extending.{AreWithin}
 use Rattle.svc_graph.specs.Rewound.{clocks_of, rewound_rows}
 
@@ -53,6 +55,25 @@ rewound-clocks_of (row ∷ rows) = ap₂ (λ ds rs. record row { history = ds } 
 pub clocks_within : (rows : List Row) → AreWithin (clocks_of rows) rows
 clocks_within [] = tt
 clocks_within (row ∷ rows) = (omega arith, clocks_within rows)
+
+-- ---- the clocks of rows in a longer list
+
+-- the list is the clocks of the rows up to this one, whatever stands behind
+abbrev pub AreClocks : List Row → ℕ → List ℕ → Type 0
+AreClocks rows n clocks = (k : ℕ) → k < n → get_or clocks k 0 ≡ length (history_of rows k)
+
+pub one_clock_more : (rows : List Row) (n clock : ℕ) (clocks : List ℕ) → n < length clocks → clock ≡ length (history_of rows n) → AreClocks rows n clocks → AreClocks rows (n + 1) (set clocks n clock)
+one_clock_more rows n clock clocks within is are k less =
+    elim (cases_eq k n) [
+      | inl same ↦ subst (λ m. get_or (set clocks n clock) m 0 ≡ length (history_of rows m)) (sym same) (get_or-set_same clocks n clock 0 within ∙ is)
+      | inr other ↦ get_or-set_other clocks n k clock 0 other ∙ are k (omega (arith, other))
+    ]
+
+pub all_clocks : (rows : List Row) (clocks : List ℕ) → length rows ≤ length clocks → AreClocks rows (length rows) clocks → take (length rows) clocks ≡ clocks_of rows
+all_clocks [] clocks room are = refl
+all_clocks (row ∷ rows) [] room are = absurd (omega (arith, room))
+all_clocks (row ∷ rows) (clock ∷ clocks) room are =
+    λ i. are 0 (omega arith) i ∷ all_clocks rows clocks (omega (arith, room)) (λ k less. are (suc k) (omega (arith, less))) i
 
 -- ---- one step of a loop
 

@@ -1,13 +1,14 @@
 -- What a leg makes of the rows of a book, and when it can be taken.
 use Rattle.std.specs.Prelude.{◌≡◌, ◌≢◌, ℕ, ◌<◌, ◌≤◌, List, [], ◌∷◌, ◌++◌, map, length, drop, option_to_list, All, None}
 use Rattle.svc_graph.specs.declared.definition.Change.{Change}
-use Rattle.svc_graph.specs.Accepting.{IsChangeOf}
-use Rattle.svc_graph.specs.Refusals.{refusal_of}
+use Rattle.svc_graph.specs.Refusals.{AcceptsChange}
 use Rattle.svc_graph.specs.History.{Row, rows_after_change, declared_row, find_service, present}
 use Rattle.svc_token.specs.Word.{IsName}
 use Rattle.svc_plan.specs.declared.plan.Leg.{Leg}
 use Rattle.svc_plan.specs.declared.plan.PlanChange.{PlanChange}
 use Rattle.svc_plan.specs.declared.plan.ServiceLine.{ServiceLine}
+use Rattle.svc_plan.specs.declared.plan.StepEvent.{StepEvent}
+use Rattle.svc_plan.specs.declared.plan.StepEvent.TheVariants.{Do, Take, Turn}
 use Rattle.svc_value.specs.declared.limits.TheConstants.{MAX_CHANGES, MAX_RANK, MAX_SERVICES}
 
 -- a service without a definition
@@ -55,23 +56,26 @@ abbrev pub AreServicesAfter : List Row → List ServiceLine → Type 0
 AreServicesAfter rows [] = Unit {0}
 AreServicesAfter rows (line ∷ lines) = IsServiceAfter rows line × AreServicesAfter (with_services rows (line ∷ [])) lines
 
--- a book accepts the change
-pub record AcceptsChange (rows : List Row) (n : ℕ) (change : Change) : Type 0 where
-  pub form : IsChangeOf rows n change
-  pub passes : refusal_of rows n change ≡ None
-
--- so it does each of these after those before it
+-- a book accepts each of these changes after those before it
 abbrev pub AreAcceptedAfter : List Row → List PlanChange → Type 0
 AreAcceptedAfter rows [] = Unit {0}
 AreAcceptedAfter rows (change ∷ changes) =
     AcceptsChange rows change.id change.change × AreAcceptedAfter (rows_after_change rows change.id change.change) changes
 
--- the leg can be taken: its services can be declared and then its changes be made, which bring each service a definition
+-- the services that the event names are among this many
+abbrev pub IsAmong : ℕ → StepEvent → Type 0
+IsAmong count (Do n) = n < count
+IsAmong count (Take n p) = (n < count) × (p < count)
+IsAmong count (Turn n) = n < count
+
+-- the leg can be taken: its services can be declared and then its changes be made, which bring each service a definition, and
+-- its step lines name services that are declared by its end
 pub record IsLegAfter (rows : List Row) (leg : Leg) : Type 0 where
   pub services : AreServicesAfter rows leg.services
   pub accepted : AreAcceptedAfter (with_services rows leg.services) leg.changes
   pub few : length leg.changes ≤ MAX_CHANGES
   pub born : All (λ row. row.history ≢ []) (drop (length rows) (rows_after rows leg))
+  pub steps : All (λ step. IsAmong (length (rows_after rows leg)) step.event) leg.steps
 
 -- each leg can be taken after those before it
 abbrev pub AreLegsAfter : List Row → List Leg → Type 0
