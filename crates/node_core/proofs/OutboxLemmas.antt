@@ -98,10 +98,12 @@ pub posted_same : (old new : List Entry) (before after : List (ℕ × List ℕ))
 posted_same old new before after e f was = let P : List Entry → Type 0 = λ entries. IsPosted entries after in let Q : List (ℕ × List ℕ) → Type 0 = λ outgoing_frames. IsPosted old outgoing_frames in subst P (sym e) (subst Q (sym f) was)
 
 -- the oldest of all goes
-pub pops_out : (x : ℕ × List ℕ) (rest : List (ℕ × List ℕ)) → TakesOut x.0 (x ∷ rest) rest (Some x.1)
-pops_out x rest = record {
-  own = cond-true (x.0 == x.0) (x.1 ∷ waiting x.0 rest) (waiting x.0 rest) (eq-eqb x.0 x.0 refl);
-  none = λ is. absurd (cc is);
-  others = λ p ne. sym (cond-false (x.0 == p) (x.1 ∷ waiting p rest) (waiting p rest) (ne_eqb x.0 p (λ e. ne (sym e))));
-  count = omega arith;
-}
+pub pops_out : (x : ℕ × List ℕ) (old rest : List (ℕ × List ℕ)) → old ≡ x ∷ rest → TakesOut x.0 old rest (Some x.1)
+pops_out x old rest is =
+    let P : List (ℕ × List ℕ) → Type 0 = λ outgoing_frames. TakesOut x.0 outgoing_frames rest (Some x.1) in
+    subst P (sym is) (record {
+      own = cond-true (x.0 == x.0) (x.1 ∷ waiting x.0 rest) (waiting x.0 rest) (eq-eqb x.0 x.0 refl);
+      none = λ e. absurd (cc e);
+      others = λ p ne. sym (cond-false (x.0 == p) (x.1 ∷ waiting p rest) (waiting p rest) (ne_eqb x.0 p (λ e. ne (sym e))));
+      count = omega arith;
+    })

@@ -32,14 +32,21 @@ pub sent_outgoing : (q : ℕ) (outgoing : List (ℕ × List ℕ)) → sent_to q 
 sent_outgoing q [] = refl
 sent_outgoing q (x ∷ rest) = ap (λ zs. cond (x.0 == q) (x.1 ∷ zs) zs) (sent_outgoing q rest)
 
+-- what is sent to one service in one more event
+pub sent_more : (q : ℕ) (entries : List Entry) (outgoing : List (ℕ × List ℕ)) (first : Entry) → ((p : ℕ) → sent_to p (first ∷ []) ≡ []) →
+    sent_to q ((entries ++ first ∷ []) ++ sent_entries outgoing) ≡ sent_to q entries ++ waiting q outgoing
+sent_more q entries outgoing first none =
+    sent_append q (entries ++ first ∷ []) (sent_entries outgoing)
+    ∙ ap (λ zs. zs ++ sent_to q (sent_entries outgoing)) (sent_append q entries (first ∷ []) ∙ ap (λ zs. sent_to q entries ++ zs) (none q) ∙ append-nil (sent_to q entries))
+    ∙ ap (λ zs. sent_to q entries ++ zs) (sent_outgoing q outgoing)
+
 -- an event is posted
 pub posted_more : (entries : List Entry) (outbox outgoing : List (ℕ × List ℕ)) (first : Entry) → ((q : ℕ) → sent_to q (first ∷ []) ≡ []) → IsPosted entries outbox →
     IsPosted ((entries ++ first ∷ []) ++ sent_entries outgoing) (outbox ++ outgoing)
 posted_more entries outbox outgoing first none was q = (
   (was q).0,
-  sent_append q (entries ++ first ∷ []) (sent_entries outgoing)
-      ∙ ap (λ zs. zs ++ sent_to q (sent_entries outgoing)) (sent_append q entries (first ∷ []) ∙ ap (λ zs. sent_to q entries ++ zs) (none q) ∙ append-nil (sent_to q entries) ∙ (was q).1)
-      ∙ ap (λ zs. ((was q).0 ++ waiting q outbox) ++ zs) (sent_outgoing q outgoing)
+  sent_more q entries outgoing first none
+      ∙ ap (λ zs. zs ++ waiting q outgoing) (was q).1
       ∙ append_assoc (was q).0 (waiting q outbox) (waiting q outgoing)
       ∙ ap (λ zs. (was q).0 ++ zs) (sym (waiting_append q outbox outgoing)),
 )

@@ -1,11 +1,16 @@
 -- Frames on their way out, oldest first, each with the service that is to take it.
-use Rattle.std.specs.Prelude.{◌≡◌, ◌≢◌, ℕ, ◌+◌, ◌==◌, List, [], ◌∷◌, ◌++◌, length, position, if◌then◌else◌, Option, option_to_list}
+use Rattle.std.specs.Prelude.{◌≡◌, ◌≢◌, ℕ, ◌+◌, ◌==◌, ◌≤◌, List, [], ◌∷◌, ◌++◌, All, length, position, if◌then◌else◌, Option, option_to_list}
 use Rattle.std.proofs.Common.{None}
+use Rattle.svc_value.specs.declared.limits.TheConstants.{MAX_FRAME_LEN}
 
 -- those to one service
 abbrev pub waiting : ℕ → List (ℕ × List ℕ) → List (List ℕ)
 waiting q [] = []
 waiting q (outgoing_frame ∷ rest) = if outgoing_frame.0 == q then outgoing_frame.1 ∷ waiting q rest else waiting q rest
+
+-- none of these is longer than a frame can be
+abbrev pub AreShort : List (List ℕ) → Type 0
+AreShort frames = All (λ frame. length frame ≤ MAX_FRAME_LEN) frames
 
 -- the place of the first to a service
 abbrev pub first_to : ℕ → List (ℕ × List ℕ) → Option ℕ

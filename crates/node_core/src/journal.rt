@@ -2,7 +2,7 @@
 ghost use Rattle.std.specs.Prelude.{◌≡◌, ◌+◌, ◌-◌, ◌≤◌, ◌<◌, [], ◌∷◌, ◌++◌, ℕ, ◌↔◌, length, option_to_list, OnOk, IfSome, IsNone, IsTrue};
 ghost use Rattle.std.specs.VecDeque.{deque_len, deque_capacity};
 ghost use Rattle.node_core.specs.Entries.{sent_entries, sent_to};
-ghost use Rattle.node_core.specs.Outbox.{TakesOut};
+ghost use Rattle.node_core.specs.Outbox.{AreShort, TakesOut, waiting};
 
 use crate::Entry;
 use crate::outbox::{put_all, take_out};
@@ -10,6 +10,7 @@ use crate::outgoing::Outgoing;
 use std::alloc::Global;
 use std::collections::VecDeque;
 use std::marker::Model;
+use svc_value::limits::MAX_FRAME_LEN;
 use svc_value::{Bytes, OutOfMemory, ServiceId};
 
 /// The log of a leg, oldest entry first, the frames that wait to be handed over, and how many of the leg were. Contracts also
@@ -61,12 +62,14 @@ impl Journal {
         Ok(())
     }
 
-    // An entry and the frames that are sent after it, for which there is room; the list of the frames comes back empty.
+    // An entry and the frames that are sent after it, which are short and for which there is room; the list of the frames comes
+    // back empty.
     #[tactic(auto, using(crate::proofs::OutgoingFrameLemmas::length_waiting_frames))]
     pub(crate) fn record(&mut self, first: Entry, mut outgoing: Outgoing) -> Outgoing
         requires entries { length outgoing < self.old.entry_room }
         requires outgoing_frames { length outgoing ≤ self.old.outgoing_frame_room }
         requires first { (q : ℕ) → sent_to q (first ∷ []) ≡ [] }
+        requires short { (q : ℕ) → AreShort (waiting q outgoing) }
         ensures entries { self.new.entries ≡ self.old.entries ++ first ∷ sent_entries outgoing }
         ensures outbox { self.new.outbox ≡ self.old.outbox ++ outgoing }
         ensures handed { self.new.handed ≡ self.old.handed }
@@ -110,6 +113,7 @@ impl Journal {
     pub(crate) fn next_out(&mut self, to: ServiceId) -> Option<Bytes>
         ensures out { TakesOut to self.old.outbox self.new.outbox result }
         ensures last { IfSome result (λ frame. IsLastOut to frame self.new.entries self.new.outbox) }
+        ensures short { IfSome result (λ frame. length frame ≤ MAX_FRAME_LEN) }
         ensures entries { self.new.entries ≡ self.old.entries }
         ensures handed { self.new.handed ≡ self.old.handed + length (option_to_list result) }
     {
@@ -123,6 +127,8 @@ impl Journal {
         ensures some { IfSome result (λ outgoing_frame. self.old.outbox ≡ outgoing_frame ∷ self.new.outbox) }
         ensures none { IsNone result → self.old.outbox ≡ [] }
         ensures kept { IsNone result → self.new.outbox ≡ self.old.outbox }
+        ensures last { IfSome result (λ outgoing_frame. IsLastOut outgoing_frame.0 outgoing_frame.1 self.new.entries self.new.outbox) }
+        ensures short { IfSome result (λ outgoing_frame. length outgoing_frame.1 ≤ MAX_FRAME_LEN) }
         ensures entries { self.new.entries ≡ self.old.entries }
         ensures handed { self.new.handed ≡ self.old.handed + length (option_to_list result) }
     {

@@ -14,11 +14,11 @@ use crate::slots::{begin_all, inputs_of};
 use stamp_match::Choice;
 use std::sync::ledger::Ledger;
 use svc_graph::{Change, Roster};
-use svc_value::limits::{MAX_CLOCK, MAX_SERVICES};
+use svc_value::limits::{MAX_CLOCK, MAX_FRAME_LEN, MAX_SERVICES};
 use svc_value::{Bytes, Clock, ServiceId, Steps};
 
 impl Node {
-    ghost use Rattle.node_core.specs.View.{told_all};
+    ghost use Rattle.node_core.specs.View.{IsLastOut, told_all};
 
     /// The own clock: how many changes were done.
     pub fn clock(&self) -> Clock
@@ -60,11 +60,13 @@ impl Node {
     }
 
     /// The oldest frame that is not yet handed over, with its receiver, which is handed over by this; None exactly where
-    /// there is none. No memory is taken.
+    /// there is none. The frame has at most 585 bytes, and can be given back at once. No memory is taken.
     pub fn pop_out(&mut self) -> Option<(ServiceId, Bytes)>
         ensures some { IfSome result (λ outgoing_frame. self.old.outbox ≡ outgoing_frame ∷ self.new.outbox) }
         ensures none { IsNone result → self.old.outbox ≡ [] }
         ensures kept { IsNone result → self.new ≡ self.old }
+        ensures last { IfSome result (λ outgoing_frame. IsLastOut outgoing_frame.0 outgoing_frame.1 self.new.entries self.new.outbox) }
+        ensures short { IfSome result (λ outgoing_frame. length outgoing_frame.1 ≤ MAX_FRAME_LEN) }
         ensures rest { self.new ≡ record self.old { outbox = self.new.outbox; handed = self.old.handed + length (option_to_list result) } }
     {
         self.journal.pop_out()

@@ -12,5 +12,6 @@ invariant_of-self c =
     record {
       posted = (let P : List (ℕ × List ℕ) → Type 0 = λ outgoing_frames. IsPosted c.self.inside.log.items outgoing_frames in
           subst P (sym c.push_front_reserved.ensures.items) (posted_back c.self.inside.log.items c.args.to c.args.bytes c.self.inside.outbox.items last c.self.invariant.posted));
+      short = c.self.invariant.short;
       room = omega (arith, c.self.invariant.room, c.push_front_reserved.ensures.len, c.push_front_reserved.ensures.capacity, some);
     }

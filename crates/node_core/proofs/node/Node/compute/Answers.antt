@@ -15,7 +15,11 @@ use Rattle.node_core.specs.Entries.{sent_entries}
 use Rattle.node_core.specs.Inside.{service_of}
 use Rattle.node_core.specs.View.{NodeView, told_all}
 use Rattle.node_core.proofs.EventLemmas.{counted_more, computed_state, computed_step, grows_event}
+use Rattle.node_core.proofs.ShortLemmas.{says_short}
 use Rattle.node_core.proofs.node.Node.compute.Goals as goal
+
+pub record-outgoing-requires-clause-short : goal.record-outgoing-requires-clause-short
+record-outgoing-requires-clause-short g c = says_short c.in_ok-outgoing.outgoing _ c.in_ok-outgoing.ensures
 
 pub invariant_of-self-2 : goal.invariant_of-self-2
 invariant_of-self-2 g c =

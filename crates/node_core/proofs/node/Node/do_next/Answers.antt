@@ -21,7 +21,11 @@ use Rattle.node_core.proofs.EventLemmas.{counted_more, grows_event}
 use Rattle.node_core.proofs.OrderLemmas.{in_order_cut}
 use Rattle.node_core.proofs.CountLemmas.{counted_cut}
 use Rattle.node_core.proofs.ChangeLemmas.{done_state, done_step}
+use Rattle.node_core.proofs.ShortLemmas.{says_short}
 use Rattle.node_core.proofs.node.Node.do_next.Goals as goal
+
+pub record-requires-clause-short : goal.record-requires-clause-short
+record-requires-clause-short c = says_short c.in_ok-definition.field-0.outgoing _ c.in_ok-definition.ensures.outgoing
 
 pub rewire_slots-requires-clause-targets : goal.rewire_slots-requires-clause-targets
 rewire_slots-requires-clause-targets c =

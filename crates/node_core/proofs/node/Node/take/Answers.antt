@@ -19,6 +19,7 @@ use Rattle.node_core.specs.View.{NodeView, Grows}
 use Rattle.node_core.proofs.ReceivedLemmas.{put_in, in_order_put, counted_put}
 use Rattle.node_core.proofs.InputLemmas.{inputs_within}
 use Rattle.node_core.proofs.MatcherLemmas.{matched_received}
+use Rattle.node_core.proofs.ShortLemmas.{short_none}
 use Rattle.node_core.proofs.TakeLemmas.{grows_took, says_nothing, longer}
 use Rattle.node_core.proofs.TakenLemmas.{takes, refuses, received_tested, received_state, received_quiet}
 use Rattle.node_core.proofs.node.Node.take.Goals as goal
@@ -28,6 +29,9 @@ abbrev still_of : NodeView → List (Slot Value) → List Entry → List (ℕ ×
 still_of node slots entries outbox handed = record node { state = with_slots slots node.state; entries = entries; outbox = outbox; handed = handed }
 
 -- ---- keys and values
+
+pub record-requires-clause-short : goal.record-requires-clause-short
+record-requires-clause-short c = short_none c.new-outgoing.result c.new-outgoing.ensures
 
 pub invariant_of-self-in-Put : goal.invariant_of-self-in-Put
 invariant_of-self-in-Put c =

@@ -16,7 +16,11 @@ use Rattle.node_core.specs.Ranks.{rank_in}
 use Rattle.node_core.specs.Taking.{TellsOf, failed_test}
 use Rattle.node_core.specs.View.{NodeView}
 use Rattle.node_core.proofs.TakeLemmas.{reads_told, grows_took, counted_longer}
+use Rattle.node_core.proofs.ShortLemmas.{says_short}
 use Rattle.node_core.proofs.node.Node.take_subscribe.Goals as goal
+
+pub record-outgoing-requires-clause-short : goal.record-outgoing-requires-clause-short
+record-outgoing-requires-clause-short c = says_short c.in-Ok.outgoing _ c.in-Ok.ensures.says
 
 pub returns-in-Err-clause-refused : goal.returns-in-Err-clause-refused
 returns-in-Err-clause-refused c =

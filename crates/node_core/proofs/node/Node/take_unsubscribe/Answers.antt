@@ -13,11 +13,15 @@ use Rattle.node_core.specs.Inside.{service_of}
 use Rattle.node_core.specs.Taking.{TellsOf, failed_test}
 use Rattle.node_core.specs.View.{NodeView, told_all}
 use Rattle.node_core.proofs.TakeLemmas.{reads_told, dropped_told, grows_took, says_nothing, counted_longer}
+use Rattle.node_core.proofs.ShortLemmas.{short_none}
 use Rattle.node_core.proofs.node.Node.take_unsubscribe.Goals as goal
 
 -- whether a reader is unknown, by its epoch
 unknown : Option ℕ → ℕ → Option Refusal
 unknown reads e = if is_epoch reads e then None else Some Unknown
+
+pub record-requires-clause-short : goal.record-requires-clause-short
+record-requires-clause-short c = short_none c.new.result c.new.ensures
 
 pub returns-in-Err-clause-refused : goal.returns-in-Err-clause-refused
 unfolding unknown
