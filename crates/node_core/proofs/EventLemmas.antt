@@ -1,6 +1,6 @@
 -- What one event makes of a node.
 use Rattle.std.proofs.Common.{◌≡◌, ℕ, ◌≤◌, false, List, [], ◌∷◌, ◌++◌, length, Option, Some, refl, sym, ap, subst, ◌∙◌, arith}
-use Rattle.std.proofs.lemmas.List.{append-nil}
+use Rattle.std.proofs.lemmas.List.{append-nil, append_cancel_left}
 use Rattle.propagation.specs.Stamps.{Stamps}
 use Rattle.propagation.specs.Logs.{Emission, Entry as TheEntry, stamps_of}
 use Rattle.propagation.specs.Logs.Entry.{Computed as TheComputed}
@@ -13,7 +13,7 @@ use Rattle.svc_value.specs.declared.value.Value.{Value}
 use Rattle.node_core.specs.declared.entry.Entry.{Entry}
 use Rattle.node_core.specs.Entries.{IsEntry, Extends, sent_entries}
 use Rattle.node_core.specs.Outgoing.{Says}
-use Rattle.node_core.specs.View.{NodeView, Grows, outgoing_in, told_all, AreCounted}
+use Rattle.node_core.specs.View.{NodeView, Grows, Logs, outgoing_in, told_all, AreCounted}
 
 -- with more entries the slots stay counted
 pub counted_more : {V : Type 0} (entries more : List Entry) (slots : List (Slot V)) → length entries ≤ length more → AreCounted entries slots → AreCounted more slots
@@ -37,6 +37,20 @@ grows_event old new first said outgoing step target entries outbox handed roster
       changes = changes;
       says = λ log. (said, is, (let P : List (TheEntry Value) → Type 0 = λ l. Extends (said ∷ log) (sent_entries outgoing) l in subst P (same log) (says.each (said ∷ log))));
     }
+
+-- the same, by the list of frames
+pub logs : (old new : NodeView) (first : Entry) (before : List Entry) (waiting outgoing : List (ℕ × List ℕ)) →
+    new.entries ≡ before ++ first ∷ sent_entries outgoing → before ≡ old.entries → new.outbox ≡ waiting ++ outgoing → waiting ≡ old.outbox → Logs first old new
+logs old new first before waiting outgoing entries entries_were outbox outbox_was =
+    record {
+      sent = outgoing;
+      entries = entries ∙ ap (λ (es : List Entry). es ++ first ∷ sent_entries outgoing) entries_were;
+      outbox = outbox ∙ ap (λ (ps : List (ℕ × List ℕ)). ps ++ outgoing) outbox_was;
+    }
+
+-- and it is that by which the log grows
+pub logs_grown : (old new : NodeView) (step : List (TheEntry Value) → List (TheEntry Value)) (first : Entry) (grows : Grows old new step) (logged : Logs first old new) → grows.more ≡ first ∷ sent_entries logged.sent
+logs_grown old new step first grows logged = append_cancel_left old.entries grows.more (first ∷ sent_entries logged.sent) (sym grows.entries ∙ logged.entries)
 
 -- nothing happens
 pub grows_not : (old : NodeView) → Grows old old (λ log. log)

@@ -11,9 +11,10 @@ use Rattle.svc_graph.specs.declared.definition.Definition.{Definition}
 use Rattle.svc_graph.specs.declared.kind.Kind.{Kind}
 use Rattle.svc_graph.specs.History.{dependencies}
 use Rattle.svc_value.specs.declared.value.Value.{Value}
+use Rattle.node_core.specs.declared.entry.Computation.{Computation}
 use Rattle.node_core.specs.declared.entry.Entry.{Entry}
-use Rattle.node_core.specs.declared.entry.Entry.TheVariants.{Sent}
-use Rattle.node_core.specs.Entries.{Extends, sent_to}
+use Rattle.node_core.specs.declared.entry.Entry.TheVariants.{Computed, Sent}
+use Rattle.node_core.specs.Entries.{Extends, sent_entries, sent_to}
 use Rattle.node_core.specs.Outbox.{waiting}
 use Rattle.svc_value.specs.declared.limits.TheConstants.{MAX_CLOCK, MAX_DEPENDENCIES, MAX_SERVICES}
 
@@ -99,6 +100,16 @@ pub record Grows (old new : NodeView) (step : List (TheEntry Value) → List (Th
   pub roster : new.roster ≡ old.roster
   pub changes : new.changes ≡ old.changes
   pub says : (log : List (TheEntry Value)) → Extends log more (step log)
+
+-- The entry is logged, and after it the frames that are sent for it, which wait behind the others.
+pub record Logs (entry : Entry) (old new : NodeView) : Type 0 where
+  pub sent : List (ℕ × List ℕ)
+  pub entries : new.entries ≡ old.entries ++ entry ∷ sent_entries sent
+  pub outbox : new.outbox ≡ old.outbox ++ sent
+
+-- a computation is logged, where there is a definition
+abbrev pub LogsComputation : NodeView → NodeView → Type 0
+LogsComputation old new = (d : Definition) → old.state.definition ≡ Some d → (computation : Computation) × Logs (Computed computation) old new
 
 -- these bytes are the last that was handed over of what was sent to the service
 abbrev pub IsLastOut : ℕ → List ℕ → List Entry → List (ℕ × List ℕ) → Type 0

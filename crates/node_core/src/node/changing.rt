@@ -2,6 +2,7 @@
 ghost use Rattle.std.specs.Prelude.{◌≡◌, ◌≢◌, ◌↔◌, ◌+◌, ◌-◌, ◌^◌, ◌<◌, [], IfOk, IsTrue, OnOk, OnErr};
 ghost use Rattle.service_machine.specs.Steps.{after_changing as done_in, done_log};
 ghost use Rattle.svc_graph.specs.History.{dependencies};
+ghost use Rattle.node_core.specs.declared.entry.Entry.TheVariants.{Did};
 
 use super::Node;
 use crate::Entry;
@@ -20,7 +21,7 @@ fn next_clock(clock: Clock) -> Clock
 }
 
 impl Node {
-    ghost use Rattle.node_core.specs.View.{Grows};
+    ghost use Rattle.node_core.specs.View.{Grows, Logs};
 
     /// Does the next change of the leg: false exactly where none is left. The own clock rises, and the service is due. Each
     /// dependency that went is sent Unsubscribe, and each that came Subscribe. After `OutOfMemory` the node is as it was.
@@ -28,6 +29,7 @@ impl Node {
         ensures answer { IfOk result (λ is_done. IsTrue is_done ↔ (self.old.state.left ≢ [])) }
         ensures state { OnOk result (self.new.state ≡ done_in dependencies self.old.state) }
         ensures log { OnOk result (Grows self.old self.new (done_log dependencies self.old.state)) }
+        ensures did { IfOk result (λ is_done. IsTrue is_done → Logs (Did self.new.state.own) self.old self.new) }
         ensures err { OnErr result (self.new ≡ self.old) }
     {
         if self.done == self.changes.len() {

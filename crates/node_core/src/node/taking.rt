@@ -4,6 +4,7 @@ ghost use Rattle.propagation.specs.Logs.Frame.{Subscribe as TheSubscribe, Unsubs
 ghost use Rattle.service_machine.specs.Steps.{after_taking, took_log};
 ghost use Rattle.wire_frame.specs.declared.frame.Frame.TheVariants.{Subscribe as IsSubscribe, Unsubscribe as IsUnsubscribe};
 ghost use Rattle.wire_frame.specs.Frames.{FrameOf};
+ghost use Rattle.node_core.specs.declared.entry.Entry.TheVariants.{Took};
 
 use super::Node;
 use crate::outgoing::Outgoing;
@@ -16,7 +17,7 @@ use crate::{Entry, TakeRefusal};
 use svc_value::{Bytes, Clock, ServiceId};
 
 impl Node {
-    ghost use Rattle.node_core.specs.View.{Grows};
+    ghost use Rattle.node_core.specs.View.{Grows, Logs};
     ghost use Rattle.node_core.specs.Taking.{IsRefused, Takes, TellsOf, failed_test};
 
     // A reader comes, and is told the last emission.
@@ -30,6 +31,7 @@ impl Node {
         ensures tested { OnOk result (failed_test self.old sender (TheSubscribe epoch) ≡ None) }
         ensures state { OnOk result (self.new.state ≡ after_taking sender (TheSubscribe epoch) self.old.state) }
         ensures log { OnOk result (Grows self.old self.new (took_log sender (TheSubscribe epoch) self.old.state)) }
+        ensures took { OnOk result (Logs (Took sender bytes) self.old self.new) }
         ensures err { IfErr result (λ refused. (self.new ≡ self.old) × (refused.1 ≡ bytes)) }
         ensures refused { IfErr result (λ refused. TellsOf (failed_test self.old sender (TheSubscribe epoch)) refused.0) }
     {
@@ -63,6 +65,7 @@ impl Node {
         ensures tested { OnOk result (failed_test self.old sender (TheUnsubscribe epoch) ≡ None) }
         ensures state { OnOk result (self.new.state ≡ after_taking sender (TheUnsubscribe epoch) self.old.state) }
         ensures log { OnOk result (Grows self.old self.new (took_log sender (TheUnsubscribe epoch) self.old.state)) }
+        ensures took { OnOk result (Logs (Took sender bytes) self.old self.new) }
         ensures err { IfErr result (λ refused. (self.new ≡ self.old) × (refused.1 ≡ bytes)) }
         ensures refused { IfErr result (λ refused. TellsOf (failed_test self.old sender (TheUnsubscribe epoch)) refused.0) }
     {
@@ -86,6 +89,7 @@ impl Node {
     /// memory may come in place of any answer. A refusal hands the bytes back and leaves the node as it was.
     pub fn take(&mut self, sender: ServiceId, bytes: Bytes) -> Result<(), (TakeRefusal, Bytes)>
         ensures ok { OnOk result (Takes sender bytes self.old self.new) }
+        ensures took { OnOk result (Logs (Took sender bytes) self.old self.new) }
         ensures err { IfErr result (λ refused. (self.new ≡ self.old) × (refused.1 ≡ bytes)) }
         ensures refused { IfErr result (λ refused. IsRefused self.old sender bytes refused.0) }
     {

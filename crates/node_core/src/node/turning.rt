@@ -16,13 +16,15 @@ use std::sync::ledger::Ledger;
 use svc_value::{OutOfMemory, ServiceId, Steps};
 
 impl Node {
-    ghost use Rattle.node_core.specs.View.{Grows};
+    ghost use Rattle.node_core.specs.View.{Grows, LogsComputation};
+    ghost use Rattle.node_core.specs.declared.turned.Turned.TheVariants.{Computed};
     ghost use Rattle.node_core.specs.Answers.{IsAnswer, IsIdle, moves_of};
 
     // Computes by the present definition, if there is one, and tells the readers.
     fn compute<L: Ledger>(&mut self, looks: &mut Steps<L>) -> Result<(), OutOfMemory>
         ensures state { OnOk result (self.new.state ≡ after_computing meaning_of self.old.state self.old.state.definition) }
         ensures log { OnOk result (Grows self.old self.new (computed_log meaning_of self.old.state self.old.state.definition)) }
+        ensures computed { OnOk result (LogsComputation self.old self.new) }
         ensures err { OnErr result (self.new ≡ self.old) }
     {
         let Some(definition) = &self.definition else {
@@ -77,6 +79,7 @@ impl Node {
     ) -> Result<Turned, OutOfMemory>
         ensures state { OnOk result (self.new.state ≡ after_turning meaning_of self.old.state) }
         ensures log { OnOk result (Grows self.old self.new (turn_log meaning_of self.old.state)) }
+        ensures computed { IfOk result (λ answer. answer ≡ Computed → LogsComputation self.old self.new) }
         ensures answer { IfOk result (IsAnswer (choice_of self.old.state)) }
         ensures idle { IfOk result (λ answer. IsIdle answer → self.new ≡ self.old) }
         ensures moves { moves.new ≡ moves.old + moves_of result }

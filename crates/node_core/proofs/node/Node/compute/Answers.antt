@@ -14,7 +14,7 @@ use Rattle.node_core.specs.Computing.{emission_over}
 use Rattle.node_core.specs.Entries.{sent_entries}
 use Rattle.node_core.specs.Inside.{service_of}
 use Rattle.node_core.specs.View.{NodeView, told_all}
-use Rattle.node_core.proofs.EventLemmas.{counted_more, computed_state, computed_step, grows_event}
+use Rattle.node_core.proofs.EventLemmas.{counted_more, computed_state, computed_step, grows_event, logs}
 use Rattle.node_core.proofs.ShortLemmas.{says_short}
 use Rattle.node_core.proofs.node.Node.compute.Goals as goal
 
@@ -76,3 +76,11 @@ returns-clause-log g c =
     (λ log. computed_step (service_of c.self.inside).state c.in-Some.definition c.in_ok-emission.emission c.in_ok-computation.computation.value c.in_ok-computation.computation.stamps c.in_ok-computation.computation.picks
     (told_all (stamps_of c.self.inside.last) c.self.inside.readers.present) log c.in-Some.is (c.in_ok-emission.ensures.emission ∙ ap (λ (slots : List (Slot Value)). emission_over c.self.inside.id c.self.inside.own c.in-Some.definition slots) (c.inputs_of-inputs.ensures.slots ∙ ap (λ (xs : List (Slot Value)). slots_of c.self.inside.edges xs) c.as_slice.ensures.value)) c.in_ok-computation.ensures.value c.in_ok-computation.ensures.stamps (c.in_ok-computation.ensures.picks ∙ ap (λ (slots : List (Slot Value)). picks slots) (c.inputs_of-inputs.ensures.slots ∙ ap (λ (xs : List (Slot Value)). slots_of c.self.inside.edges xs) c.as_slice.ensures.value)) refl
     ∙ ap (λ (s : NodeView). computed_log meaning_of s.state s.state.definition log) c.self.view_is)
+
+pub returns-clause-computed : goal.returns-clause-computed
+returns-clause-computed g c = λ d is. (
+  c.in_ok-computation.computation,
+  logs c.args.self.now _ (Computed c.in_ok-computation.computation) c.reserve.new.self.entries c.reserve.new.self.outbox c.in_ok-outgoing.outgoing
+      c.record-outgoing.ensures.entries (c.in_ok-reserve.ensures.same.entries ∙ ap (λ (s : NodeView). s.entries) c.self.view_is)
+      c.record-outgoing.ensures.outbox (c.in_ok-reserve.ensures.same.outbox ∙ ap (λ (s : NodeView). s.outbox) c.self.view_is),
+)

@@ -17,7 +17,7 @@ use Rattle.node_core.specs.Rewiring.{rewired_frames}
 use Rattle.node_core.specs.View.{NodeView, IsFew, AreInOrder, AreCounted}
 use Rattle.node_core.proofs.DefinitionLemmas.{coming_at, few_next, defined_next}
 use Rattle.node_core.proofs.DoneLemmas.{edges_targets, edges_length, edges_epochs}
-use Rattle.node_core.proofs.EventLemmas.{counted_more, grows_event}
+use Rattle.node_core.proofs.EventLemmas.{counted_more, grows_event, logs}
 use Rattle.node_core.proofs.OrderLemmas.{in_order_cut}
 use Rattle.node_core.proofs.CountLemmas.{counted_cut}
 use Rattle.node_core.proofs.ChangeLemmas.{done_state, done_step}
@@ -132,3 +132,9 @@ returns-clause-log c =
     (coming (Some (next c.self.inside.definition c.index-change.result.now)) (drop (suc c.self.inside.done) c.self.inside.changes.items)) log
     (coming_at c.self.inside.definition c.self.inside.changes.items c.self.inside.done c.index-change.result.now lt c.index-change.ensures) (omega (arith, c.next_clock-clock.ensures))
     ∙ ap (λ (s : NodeView). done_log dependencies s.state log) c.self.view_is)
+
+pub returns-clause-did : goal.returns-clause-did
+returns-clause-did c = λ _.
+    logs c.args.self.now _ (Did c.next_clock-clock.result) c.reserve.new.self.entries c.reserve.new.self.outbox c.in_ok-definition.field-0.outgoing
+    (c.record.ensures.entries ∙ ap (λ k. c.reserve.new.self.entries ++ Did k ∷ sent_entries c.in_ok-definition.field-0.outgoing) c.clock.view_is) (c.in_ok-reserve.ensures.same.entries ∙ ap (λ (s : NodeView). s.entries) c.self.view_is)
+    c.record.ensures.outbox (c.in_ok-reserve.ensures.same.outbox ∙ ap (λ (s : NodeView). s.outbox) c.self.view_is)

@@ -10,15 +10,17 @@ use Rattle.wire_frame.specs.declared.frame.Frame.TheVariants.{Subscribe, Unsubsc
 use Rattle.wire_frame.specs.Frames.{FrameOf}
 use Rattle.wire_frame.specs.Message.{IsMessage}
 use Rattle.node_core.specs.declared.entry.Entry.{Entry}
+use Rattle.node_core.specs.declared.entry.Entry.TheVariants.{Took}
 use Rattle.node_core.specs.declared.errors.TakeRefusal.{TakeRefusal}
 use Rattle.node_core.specs.declared.received.Received.{Received}
 use Rattle.node_core.specs.Receiving.{Receives, IsReceived}
 use Rattle.node_core.specs.Inside.{service_of}
 use Rattle.node_core.specs.Taking.{TellsOf, failed_test}
-use Rattle.node_core.specs.View.{NodeView, Grows}
+use Rattle.node_core.specs.View.{NodeView, Grows, Logs}
 use Rattle.node_core.proofs.ReceivedLemmas.{put_in, in_order_put, counted_put}
 use Rattle.node_core.proofs.InputLemmas.{inputs_within}
 use Rattle.node_core.proofs.MatcherLemmas.{matched_received}
+use Rattle.node_core.proofs.EventLemmas.{logs}
 use Rattle.node_core.proofs.ShortLemmas.{short_none}
 use Rattle.node_core.proofs.TakeLemmas.{grows_took, says_nothing, longer}
 use Rattle.node_core.proofs.TakenLemmas.{takes, refuses, received_tested, received_state, received_quiet}
@@ -70,6 +72,12 @@ returns-in-Put-clause-ok c =
     message
     (says_nothing c.args.sender said c.args.self.now.state.last c.new-outgoing.result c.new-outgoing.ensures (received_quiet node c.args.sender said new received c.args.self.now.state.last)))
 
+pub returns-in-Put-clause-took : goal.returns-in-Put-clause-took
+returns-in-Put-clause-took c =
+    logs c.args.self.now _ (Took c.args.sender c.args.bytes) c.receive.new.journal.entries c.receive.new.journal.outbox c.new-outgoing.result
+    c.record.ensures.entries (c.in-Ok.ensures.same.entries ∙ ap (λ (s : NodeView). s.entries) c.self.view_is)
+    c.record.ensures.outbox (c.in-Ok.ensures.same.outbox ∙ ap (λ (s : NodeView). s.outbox) c.self.view_is)
+
 -- ---- readers
 
 pub returns-in-Subscribe-clause-ok : goal.returns-in-Subscribe-clause-ok
@@ -82,6 +90,12 @@ returns-in-Subscribe-clause-ok c =
     (subst (λ (s : NodeView). OnOk c.take_subscribe.result (failed_test s c.args.sender said ≡ None)) same c.take_subscribe.ensures.tested)
     (subst (λ (s : NodeView). OnOk c.take_subscribe.result (c.take_subscribe.new.self.state ≡ after_taking c.args.sender said s.state)) same c.take_subscribe.ensures.state)
     (subst (λ (s : NodeView). OnOk c.take_subscribe.result (Grows s c.take_subscribe.new.self (took_log c.args.sender said s.state))) same c.take_subscribe.ensures.log)
+
+pub returns-in-Subscribe-clause-took : goal.returns-in-Subscribe-clause-took
+returns-in-Subscribe-clause-took c =
+    let told = subst (λ (h : Received). Receives c.as_slice-roster.result.now c.self.inside.id c.self.inside.own c.args.sender c.as_slice-lent.result.now c.self.inside.slots.items c.receive.new.slots.items h) c.in-Subscribe.is c.in-Ok.ensures.ok in
+    let same = (λ i. still_of (service_of c.self.inside) (told.1 i) (c.in-Ok.ensures.same.entries i) (c.in-Ok.ensures.same.outbox i) (c.in-Ok.ensures.same.handed i)) ∙ c.self.view_is in
+    subst (λ (s : NodeView). OnOk c.take_subscribe.result (Logs (Took c.args.sender c.args.bytes) s c.take_subscribe.new.self)) same c.take_subscribe.ensures.took
 
 pub returns-in-Subscribe-clause-refused : goal.returns-in-Subscribe-clause-refused
 returns-in-Subscribe-clause-refused c =
@@ -102,6 +116,12 @@ returns-in-Unsubscribe-clause-ok c =
     (subst (λ (s : NodeView). OnOk c.take_unsubscribe.result (failed_test s c.args.sender said ≡ None)) same c.take_unsubscribe.ensures.tested)
     (subst (λ (s : NodeView). OnOk c.take_unsubscribe.result (c.take_unsubscribe.new.self.state ≡ after_taking c.args.sender said s.state)) same c.take_unsubscribe.ensures.state)
     (subst (λ (s : NodeView). OnOk c.take_unsubscribe.result (Grows s c.take_unsubscribe.new.self (took_log c.args.sender said s.state))) same c.take_unsubscribe.ensures.log)
+
+pub returns-in-Unsubscribe-clause-took : goal.returns-in-Unsubscribe-clause-took
+returns-in-Unsubscribe-clause-took c =
+    let told = subst (λ (h : Received). Receives c.as_slice-roster.result.now c.self.inside.id c.self.inside.own c.args.sender c.as_slice-lent.result.now c.self.inside.slots.items c.receive.new.slots.items h) c.in-Unsubscribe.is c.in-Ok.ensures.ok in
+    let same = (λ i. still_of (service_of c.self.inside) (told.1 i) (c.in-Ok.ensures.same.entries i) (c.in-Ok.ensures.same.outbox i) (c.in-Ok.ensures.same.handed i)) ∙ c.self.view_is in
+    subst (λ (s : NodeView). OnOk c.take_unsubscribe.result (Logs (Took c.args.sender c.args.bytes) s c.take_unsubscribe.new.self)) same c.take_unsubscribe.ensures.took
 
 pub returns-in-Unsubscribe-clause-refused : goal.returns-in-Unsubscribe-clause-refused
 returns-in-Unsubscribe-clause-refused c =

@@ -10,12 +10,14 @@ use Rattle.service_machine.specs.States.{epoch_in}
 use Rattle.service_machine.specs.Steps.{sends_to}
 use Rattle.svc_graph.specs.declared.kind.Kind.{Kind}
 use Rattle.wire_frame.specs.declared.frame.Frame.TheVariants.{Subscribe}
+use Rattle.node_core.specs.declared.entry.Entry.TheVariants.{Took}
 use Rattle.node_core.specs.Inside.{service_of}
 use Rattle.node_core.specs.Outgoing.{Says}
 use Rattle.node_core.specs.Ranks.{rank_in}
 use Rattle.node_core.specs.Taking.{TellsOf, failed_test}
 use Rattle.node_core.specs.View.{NodeView}
 use Rattle.node_core.proofs.TakeLemmas.{reads_told, grows_took, counted_longer}
+use Rattle.node_core.proofs.EventLemmas.{logs}
 use Rattle.node_core.proofs.ShortLemmas.{says_short}
 use Rattle.node_core.proofs.node.Node.take_subscribe.Goals as goal
 
@@ -69,3 +71,9 @@ returns-clause-log c =
     (ap (λ (s : NodeView). s.roster) c.self.view_is) (ap (λ (s : NodeView). s.changes) c.self.view_is)
     (record { frame = Subscribe c.args.epoch; frame_of = c.requires.frame; is = refl })
     (let P : NodeView → Type 0 = λ s. Says c.in-Ok.outgoing (sends_to c.args.sender (reply (TheSubscribe c.args.epoch) s.state.last)) in subst P c.self.view_is c.in-Ok.ensures.says)
+
+pub returns-clause-took : goal.returns-clause-took
+returns-clause-took c =
+    logs c.args.self.now _ (Took c.args.sender c.args.bytes) c.staged_welcome.new.journal.entries c.staged_welcome.new.journal.outbox c.in-Ok.outgoing
+    c.record-outgoing.ensures.entries (c.in-Ok.ensures.same.entries ∙ ap (λ (s : NodeView). s.entries) c.self.view_is)
+    c.record-outgoing.ensures.outbox (c.in-Ok.ensures.same.outbox ∙ ap (λ (s : NodeView). s.outbox) c.self.view_is)

@@ -9,10 +9,12 @@ use Rattle.service_machine.specs.Refusing.Refusal.{Unknown}
 use Rattle.service_machine.specs.States.{dropped}
 use Rattle.service_machine.specs.Steps.{after_taking}
 use Rattle.wire_frame.specs.declared.frame.Frame.TheVariants.{Unsubscribe}
+use Rattle.node_core.specs.declared.entry.Entry.TheVariants.{Took}
 use Rattle.node_core.specs.Inside.{service_of}
 use Rattle.node_core.specs.Taking.{TellsOf, failed_test}
 use Rattle.node_core.specs.View.{NodeView, told_all}
 use Rattle.node_core.proofs.TakeLemmas.{reads_told, dropped_told, grows_took, says_nothing, counted_longer}
+use Rattle.node_core.proofs.EventLemmas.{logs}
 use Rattle.node_core.proofs.ShortLemmas.{short_none}
 use Rattle.node_core.proofs.node.Node.take_unsubscribe.Goals as goal
 
@@ -73,3 +75,9 @@ returns-clause-log c =
     (ap (λ (s : NodeView). s.roster) c.self.view_is) (ap (λ (s : NodeView). s.changes) c.self.view_is)
     (record { frame = Unsubscribe c.args.epoch; frame_of = c.requires.frame; is = refl })
     (says_nothing c.args.sender (TheUnsubscribe c.args.epoch) c.args.self.now.state.last c.new.result c.new.ensures refl)
+
+pub returns-clause-took : goal.returns-clause-took
+returns-clause-took c =
+    logs c.args.self.now _ (Took c.args.sender c.args.bytes) c.reserve.new.self.entries c.reserve.new.self.outbox c.new.result
+    c.record.ensures.entries (c.reserve.ensures.same.entries ∙ ap (λ (s : NodeView). s.entries) c.self.view_is)
+    c.record.ensures.outbox (c.reserve.ensures.same.outbox ∙ ap (λ (s : NodeView). s.outbox) c.self.view_is)
