@@ -68,10 +68,8 @@ impl Node {
     }
 
     /// One turn: the first case of the turn table that applies. It takes one step of `moves` exactly where it answers
-    /// `Advanced`, and one of `looks` for each comparison of a clock. What the table looks for is kept up to date: `Advanced`
-    /// looks at the clocks of the head that goes and of the one that comes, `Computed` at those that are emitted, `Lags` at those
-    /// of the head that it names, and the others at none. `Empty`, `Lags` and `Still` leave the node as it was, and so does
-    /// `OutOfMemory`.
+    /// `Advanced`. `looks` counts comparisons of clocks; how many there are is not said. `Empty`, `Lags` and `Still` leave the
+    /// node as it was, and so does `OutOfMemory`.
     pub fn turn<M: Ledger, L: Ledger>(
         &mut self,
         moves: &mut Steps<M>,
