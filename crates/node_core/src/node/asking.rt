@@ -87,4 +87,18 @@ impl Node {
         self.changes = changes;
         self.done = 0;
     }
+
+    /// A leg begins, as `open_leg` says, with the roster of the leg before. No memory is taken.
+    pub fn begin_leg_with_same_roster(&mut self, changes: Vec<Change>)
+        requires done { self.old.state.left ≡ [] }
+        requires log { self.old.entries ≡ [] }
+        requires known { self.old.state.id < length self.old.roster }
+        requires accepted { (d : TheDefinition) → Has (coming self.old.state.definition changes.items) d → IsDefinitionOf self.old.roster self.old.state.id d }
+        requires clock { self.old.state.own + length changes.items ≤ MAX_CLOCK }
+        ensures { self.new ≡ record self.old { state = opened_with (coming self.old.state.definition changes.items) self.old.state; changes = changes.items } }
+    {
+        begin_all(&mut self.slots);
+        self.changes = changes;
+        self.done = 0;
+    }
 }
