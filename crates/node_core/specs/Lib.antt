@@ -10,6 +10,7 @@ pub mod Computing
 pub mod Answers
 pub mod Rewiring
 pub mod Lives
+pub mod Legs
 pub mod Ranks
 pub mod Taking
 pub mod Receiving
