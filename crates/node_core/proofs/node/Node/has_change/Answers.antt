@@ -1,6 +1,5 @@
-use Rattle.std.proofs.Common.{subst, ◌≡◌, ◌≢◌, ◌<◌, ◌≤◌, [], arith, nat_lt, IsTrue, inl, inr, length}
+use Rattle.std.proofs.Common.{subst, ◌≢◌, ◌<◌, ◌≤◌, [], arith, nat_lt, IsTrue, inl, inr}
 use Rattle.std.proofs.lemmas.Bool.{cases_Bool, ltb-true, ltb-false}
-use Rattle.node_core.specs.Inside.{service_of}
 use Rattle.node_core.specs.View.{NodeView}
 use Rattle.node_core.proofs.DefinitionLemmas.{all_done, some_left}
 use Rattle.node_core.proofs.node.Node.has_change.Goals as goal
