@@ -9,11 +9,11 @@ use Rattle.svc_graph.specs.declared.definition.Change.TheVariants as change
 use Rattle.svc_graph.specs.declared.definition.Definition.TheVariants as definition
 use Rattle.svc_graph.specs.Accepting.{IsChangeOf}
 use Rattle.svc_graph.specs.History.{Row, history_of, present, roster_of, find_service}
-use Rattle.svc_graph.specs.Refusals.{names_unknown, names_high, has_wrong_type, has_too_many, sets_derived, changes_input, brings_again, drops_other, refusal_of}
+use Rattle.svc_graph.specs.Refusals.{AcceptsChange, names_unknown, names_high, has_wrong_type, has_too_many, sets_derived, changes_input, brings_again, drops_other, refusal_of}
 use Rattle.svc_graph.proofs.AreDistinct.{or_left, or_right}
 use Rattle.svc_plan.specs.declared.plan.Mode.{Mode}
 use Rattle.svc_plan.specs.declared.plan.ServiceLine.{ServiceLine}
-use Rattle.svc_plan.specs.Rows.{with_services, AcceptsChange, AreAcceptedAfter}
+use Rattle.svc_plan.specs.Rows.{with_services, AreAcceptedAfter}
 use Rattle.document_reading.specs.declared.refusal.Code.{Code}
 use Rattle.document_reading.specs.declared.refusal.Code.TheVariants.{E05, E06, E07, E08, E09, E10, E11, E12, E13, E14, E15, E16, E17, E18, E19}
 use Rattle.document_reading.specs.declared.statement.Body.TheVariants.{Formula, TooLarge}

@@ -19,11 +19,11 @@ use Rattle.svc_graph.specs.declared.errors.ChangeError.{ChangeError}
 use Rattle.svc_graph.specs.declared.errors.ChangeError.TheVariants.{Unknown}
 use Rattle.svc_graph.specs.declared.kind.Kind.{Kind}
 use Rattle.svc_graph.specs.History.{Row, rows_after_change, history_of, kind_of, present, roster_of, row_at}
-use Rattle.svc_graph.specs.Refusals.{kind_at, is_unknown, any_named, names_unknown, is_high, names_high, is_text, is_type, is_ill_typed, has_wrong_type, has_too_many, is_large, sets_derived, changes_input, brings_again, repeats, drops_other, last_dependencies, last_members, last_takes_numbers, first_error}
+use Rattle.svc_graph.specs.Refusals.{AcceptsChange, kind_at, is_unknown, any_named, names_unknown, is_high, names_high, is_text, is_type, is_ill_typed, has_wrong_type, has_too_many, is_large, sets_derived, changes_input, brings_again, repeats, drops_other, last_dependencies, last_members, last_takes_numbers, first_error}
 use Rattle.svc_value.specs.Value.{has_type}
 use Rattle.svc_value.specs.declared.value.ValueType.TheVariants.{Text}
 use Rattle.svc_plan.specs.declared.plan.PlanChange.{PlanChange}
-use Rattle.svc_plan.specs.Rows.{with_changes, AcceptsChange, AreAcceptedAfter}
+use Rattle.svc_plan.specs.Rows.{with_changes, AreAcceptedAfter}
 use Rattle.svc_plan.proofs.RowLemmas.{changed-append, row_at-append, long-append}
 use Rattle.document_reading.proofs.NumberLemmas.{any_none}
 use Rattle.document_reading.proofs.RefusalLemmas.{error_of}

@@ -1,6 +1,6 @@
 -- The book that a document finds which goes on from another.
 use Rattle.std.proofs.Common.{◌≡◌, ◌≢◌, ℕ, zero, suc, ◌+◌, ◌<◌, ◌≤◌, Bool, true, false, not, List, [], ◌∷◌, ◌++◌, length, take, get_or, Option, Some, None, refl, sym, ap, subst, ◌∙◌, arith, inl, inr, length-append}
-use Rattle.std.specs.Prelude.{slice_get, option_to_list, ◌==◌, ◌||◌, ◌&&◌, if◌then◌else◌, ◌-◌}
+use Rattle.std.specs.Prelude.{slice_get, option_map, is_some, option_to_list, ◌==◌, ◌||◌, ◌&&◌, if◌then◌else◌, ◌-◌}
 use Rattle.std.specs.List.{list_any}
 use Rattle.std.specs.Str.{bytes_eq}
 use Rattle.std.proofs.lemmas.Bool.{lt-leb, le-ltb, ne_eqb}
@@ -23,10 +23,10 @@ use Rattle.svc_graph.specs.declared.definition.Definition.TheVariants.{Input, De
 use Rattle.svc_graph.specs.declared.definition.Formula.{Formula}
 use Rattle.svc_graph.specs.declared.kind.Kind.{Kind}
 use Rattle.svc_graph.specs.History.{Row, rows_after_change, declared_row, history_of, kind_of, names_in, find_service, present, roster_of, row_at}
-use Rattle.svc_graph.specs.Refusals.{kind_at, any_named, is_unknown, is_high, is_text, is_type, is_ill_typed, is_large, repeats, first_error, refusal_of}
+use Rattle.svc_graph.specs.Refusals.{AcceptsChange, kind_at, any_named, is_unknown, is_high, is_text, is_type, is_ill_typed, is_large, repeats, first_error, refusal_of}
 use Rattle.svc_value.specs.declared.value.ValueType.{ValueType}
 use Rattle.svc_value.specs.declared.value.ValueType.TheVariants as type
-use Rattle.svc_plan.specs.Rows.{AcceptsChange, present_rows}
+use Rattle.svc_plan.specs.Rows.{present_rows}
 use Rattle.document_reading.specs.Present.{bare_rows, half_present}
 use Rattle.document_reading.specs.Sound.{IsStart}
 use Rattle.document_reading.specs.State.{start}
@@ -206,6 +206,11 @@ module _ (rows : List Row) (n : ℕ) (d : Definition) (b : IsBook rows) (h : n <
 
   pub half_accepts : AcceptsChange (half_present n rows) n (Birth d)
   half_accepts = record { form = half_form; passes = half_passes }
+
+-- what is made of something that may be there is there where that is
+pub there_is : {A B : Type 0} (f : A → B) (o : Option A) (made : B) → option_map f o ≡ Some made → is_some o ≡ true
+there_is f None made e = absurd (cc)
+there_is f (Some x) made e = refl
 
 -- ---- the start
 

@@ -1,10 +1,11 @@
 -- The legs of an accepted document can be taken.
 use Rattle.std.proofs.Common.{◌≡◌, ◌≢◌, ℕ, ◌+◌, ◌<◌, ◌≤◌, Bool, true, false, List, [], ◌∷◌, ◌++◌, length, length-append, Option, Some, None, refl, sym, ap, subst, ◌∙◌, arith, append_assoc}
-use Rattle.std.specs.Prelude.{map, drop, position, is_some, ◌&&◌, ◌||◌, nat_lt, nat_le, All, if◌then◌else◌}
+use Rattle.std.specs.Prelude.{map, drop, position, is_some, slice_index_or, ◌&&◌, ◌||◌, nat_lt, nat_le, All, if◌then◌else◌}
+use Rattle.std.specs.List.{list_any}
 use Rattle.std.specs.Str.{bytes_eq}
 use Rattle.std.proofs.lemmas.Bool.{leb-false, ltb-false}
 use Rattle.std.proofs.lemmas.List.{append-nil}
-use Rattle.std.proofs.lemmas.List.Elements.{All-cons, All-nil}
+use Rattle.std.proofs.lemmas.List.Elements.{All-append, All-cons, All-nil}
 use Rattle.svc_graph.proofs.AreDistinct.{or_left, or_right}
 use Rattle.svc_graph.specs.History.{Row, names_in, find_service}
 use Rattle.svc_token.specs.Word.{IsName}
@@ -12,22 +13,57 @@ use Rattle.svc_plan.specs.declared.plan.Leg.{Leg}
 use Rattle.svc_plan.specs.declared.plan.Mode.{Mode}
 use Rattle.svc_plan.specs.declared.plan.PlanChange.{PlanChange}
 use Rattle.svc_plan.specs.declared.plan.ServiceLine.{ServiceLine}
-use Rattle.svc_plan.specs.Rows.{row_of, with_services, with_changes, rows_after_all, IsServiceAfter, AreServicesAfter, AreAcceptedAfter, IsLegAfter, AreLegsAfter}
+use Rattle.svc_plan.specs.declared.plan.StepEvent.{StepEvent}
+use Rattle.svc_plan.specs.declared.plan.StepEvent.TheVariants as event
+use Rattle.svc_plan.specs.declared.plan.StepLine.{StepLine}
+use Rattle.svc_plan.specs.Rows.{row_of, with_services, with_changes, rows_after_all, IsAmong, IsServiceAfter, AreServicesAfter, AreAcceptedAfter, IsLegAfter, AreLegsAfter}
 use Rattle.svc_plan.proofs.LegLemmas.{services-append, with_services-append, rows_after_all-last, legs-last, names_in-with_changes, length-with_changes}
 use Rattle.svc_plan.specs.Rows.{EachBorn}
 use Rattle.svc_plan.proofs.RowLemmas.{each_born, born-drop}
 use Rattle.document_reading.specs.declared.statement.Body.TheVariants.{Formula, TooLarge}
 use Rattle.document_reading.specs.declared.statement.Statement.{Statement}
-use Rattle.document_reading.specs.declared.statement.Statement.TheVariants.{Silence, Input, Derived, Set, Add, Drop, Define, Settle}
+use Rattle.document_reading.specs.declared.statement.Statement.TheVariants.{Silence, Input, Derived, Set, Add, Drop, Define, Settle, Do, Take, Turn}
 use Rattle.document_reading.specs.Document.{lines_of, Reads, ends, line}
-use Rattle.document_reading.specs.Refusals.{is_past_legs}
+use Rattle.document_reading.specs.Refusals.{is_past_legs, is_unknown}
+use Rattle.document_reading.specs.Refusals as refusals
 use Rattle.document_reading.specs.Sound.{IsStart, IsSound}
-use Rattle.document_reading.specs.State.{State, start, next, leg_said, declares, changes, legs_in}
+use Rattle.document_reading.specs.State.{State, start, next, leg_said, declares, changes, steps, legs_in}
 use Rattle.document_reading.proofs.FitLemmas.{Fits, fits_of, changes_accepted}
+use Rattle.document_reading.proofs.NumberLemmas.{named}
 use Rattle.document_reading.proofs.MoreLemmas.{accepted-more, with_changes-more, with_changes-append, accepted-append}
 use Rattle.document_reading.proofs.ProperLemmas.{DeclaresName, said_proper, said_named}
 use Rattle.document_reading.proofs.ReadingLemmas.{reads-last}
 use Rattle.document_reading.proofs.SoundLemmas.{size, size-append, size_lines, born_reads, sound_here}
+
+-- ---- step lines
+
+-- the services that these step lines name are among so many
+abbrev AreAmong : ℕ → List StepLine → Type 0
+AreAmong count asked = All (λ step. IsAmong count step.event) asked
+
+no_steps : (count : ℕ) → AreAmong count []
+no_steps count = All-nil (λ step. IsAmong count step.event)
+
+one_step : (count : ℕ) (step : StepLine) → IsAmong count step.event → AreAmong count (step ∷ [])
+one_step count step is = All-cons (λ step. IsAmong count step.event) step [] is (no_steps count)
+
+more_services : (few many : ℕ) (asked : StepEvent) → few ≤ many → IsAmong few asked → IsAmong many asked
+more_services few many (event.Do n) more is = omega (arith, more, is)
+more_services few many (event.Take n p) more is = (omega (arith, more, is.0), omega (arith, more, is.1))
+more_services few many (event.Turn n) more is = omega (arith, more, is)
+
+among_more : (few many : ℕ) (asked : List StepLine) → few ≤ many → AreAmong few asked → AreAmong many asked
+among_more few many asked more are k d less = more_services few many (slice_index_or asked k d).event more (are k d less)
+
+-- a step line whose names are declared
+steps_among : (rows : List Row) (number : ℕ) (statement : Statement) → list_any (is_unknown rows) (refusals.names_in statement) ≡ false → AreAmong (length rows) (steps rows number statement)
+steps_among rows number (Do name) known = one_step (length rows) _ (named rows name (or_left (is_unknown rows name) false known)).within
+steps_among rows number (Take reader sender) known =
+    let rest = or_right (is_unknown rows reader) (list_any (is_unknown rows) (sender ∷ [])) known in
+    one_step (length rows) _
+    ((named rows reader (or_left (is_unknown rows reader) (list_any (is_unknown rows) (sender ∷ [])) known)).within, (named rows sender (or_left (is_unknown rows sender) false rest)).within)
+steps_among rows number (Turn name) known = one_step (length rows) _ (named rows name (or_left (is_unknown rows name) false known)).within
+steps_among rows number statement known = no_steps (length rows)
 
 -- ---- the rows of a state
 
@@ -45,6 +81,7 @@ pub record Stands (rows : List Row) (before : ℕ) (s : State) : Type 0 where
   pub accepted : AreAcceptedAfter (opened rows s) s.open_leg.changes
   pub few : length s.open_leg.changes ≤ 1024
   pub now : with_changes (opened rows s) s.open_leg.changes ≡ s.rows
+  pub steps : AreAmong (length s.rows) s.open_leg.steps
   pub before_is : s.before ≡ before
   pub few_legs : before + length s.ended ≤ 1000
   pub more_legs : s.is_open ≡ true → before + length s.ended < 1000
@@ -56,6 +93,7 @@ at_start rows before h = record {
   accepted = tt;
   few = omega arith;
   now = append-nil rows;
+  steps = no_steps (length rows);
   before_is = refl;
   few_legs = omega (arith, h);
   more_legs = λ is. absurd (cc);
@@ -122,11 +160,12 @@ module _ (rows : List Row) (before : ℕ) (s : State) (h : Stands rows before s)
   same_length = sym (length-with_changes (opened rows s) s.open_leg.changes) ∙ ap length h.now
 
   -- services and changes more, in a leg that goes on
-  with_more : (lines : List ServiceLine) (cs : List PlanChange) (last : State) → AreServicesAfter (opened rows s) lines → AreAcceptedAfter (with_services s.rows lines) cs
+  with_more : (lines : List ServiceLine) (cs : List PlanChange) (asked : List StepLine) (last : State) → AreServicesAfter (opened rows s) lines
+      → AreAcceptedAfter (with_services s.rows lines) cs → AreAmong (length s.rows) asked
       → length s.open_leg.changes + length cs ≤ 1024 → before + length s.ended < 1000 → last.ended ≡ s.ended → last.before ≡ s.before
-      → last.open_leg.services ≡ s.open_leg.services ++ lines → last.open_leg.changes ≡ s.open_leg.changes ++ cs → last.rows ≡ with_changes (with_services s.rows lines) cs
-      → Stands rows before last
-  with_more lines cs last l k few legs ended_is before_is services_are changes_are rows_are = record {
+      → last.open_leg.services ≡ s.open_leg.services ++ lines → last.open_leg.changes ≡ s.open_leg.changes ++ cs
+      → last.open_leg.steps ≡ s.open_leg.steps ++ asked → last.rows ≡ with_changes (with_services s.rows lines) cs → Stands rows before last
+  with_more lines cs asked last l k named few legs ended_is before_is services_are changes_are steps_are rows_are = record {
     ended = subst (AreLegsAfter rows) (sym ended_is) h.ended;
     services = subst (λ (legs : List Leg). AreServicesAfter (rows_after_all rows legs) last.open_leg.services) (sym ended_is)
         (subst (AreServicesAfter (base rows s)) (sym services_are) (services-append (base rows s) s.open_leg.services lines h.services l));
@@ -137,11 +176,21 @@ module _ (rows : List Row) (before : ℕ) (s : State) (h : Stands rows before s)
     few = subst (λ (c : List PlanChange). length c ≤ 1024) (sym changes_are) (omega (arith, length-append s.open_leg.changes cs, few));
     now = (λ i. with_changes (opened_is i) (changes_are i)) ∙ with_changes-append (with_services (opened rows s) lines) s.open_leg.changes cs
         ∙ ap (λ (rs : List Row). with_changes rs cs) behind ∙ sym rows_are;
+    steps = subst (AreAmong (length last.rows)) (sym steps_are)
+        (All-append (λ step. IsAmong (length last.rows) step.event) s.open_leg.steps asked (among_more (length s.rows) (length last.rows) s.open_leg.steps grown h.steps)
+        (among_more (length s.rows) (length last.rows) asked grown named));
     before_is = before_is ∙ h.before_is;
     few_legs = let e = ap length ended_is in omega (arith, e, legs);
     more_legs = λ is. let e = ap length ended_is in omega (arith, e, legs);
   }
     where
+      grown : length s.rows ≤ length last.rows
+      grown =
+          let same = ap length rows_are in
+          let counted = length-with_changes (with_services s.rows lines) cs in
+          let longer = length-append s.rows (map row_of lines) in
+          omega (arith, same, counted, longer)
+
       opened_is : opened rows last ≡ with_services (opened rows s) lines
       opened_is = (λ i. with_services (rows_after_all rows (ended_is i)) (services_are i)) ∙ with_services-append (base rows s) s.open_leg.services lines
 
@@ -154,6 +203,7 @@ module _ (rows : List Row) (before : ℕ) (s : State) (h : Stands rows before s)
     accepted = h.accepted;
     few = h.few;
     born = all_born _ (subst (λ (rs : List Row). EachBorn (drop (length (base rows s)) rs)) (sym h.now) (born-drop (length (base rows s)) s.rows born));
+    steps = subst (λ (rs : List Row). AreAmong (length rs) s.open_leg.steps) (sym h.now) h.steps;
   }
 
   with_settle : EachBorn s.rows → before + length s.ended < 1000 → Stands rows before (next s Settle)
@@ -163,6 +213,7 @@ module _ (rows : List Row) (before : ℕ) (s : State) (h : Stands rows before s)
     accepted = tt;
     few = omega arith;
     now = append-nil (rows_after_all rows (s.ended ++ s.open_leg ∷ [])) ∙ rows_after_all-last rows s.ended s.open_leg ∙ h.now;
+    steps = no_steps (length s.rows);
     before_is = h.before_is;
     few_legs = omega (arith, length-append s.ended (s.open_leg ∷ []), legs);
     more_legs = λ is. absurd (cc);
@@ -176,9 +227,11 @@ module _ (rows : List Row) (before : ℕ) (s : State) (h : Stands rows before s)
       → last ≡ record s { lines = s.lines + 1; rows = with_changes (with_services s.rows (declares statement)) (changes s.rows statement); open_leg = leg_said s statement; is_open = true }
       → Stands rows before last
   with_said mode statement last sound named k f e is =
-      with_more (declares statement) (changes s.rows statement) last (declared_after mode s (opened rows s) statement same_names same_length named f) k
+      with_more (declares statement) (changes s.rows statement) (steps s.rows (s.lines + 1) statement) last
+      (declared_after mode s (opened rows s) statement same_names same_length named f) k (steps_among s.rows (s.lines + 1) statement f.known)
       (room_for (length (declares statement)) (length s.open_leg.changes) (changes s.rows statement) (one_change s.rows statement) h.few f.changes)
-      (legs_left mode statement e f) (ap (λ (t : State). t.ended) is) (ap (λ (t : State). t.before) is) (ap (λ (t : State). t.open_leg.services) is) (ap (λ (t : State). t.open_leg.changes) is) (ap (λ (t : State). t.rows) is)
+      (legs_left mode statement e f) (ap (λ (t : State). t.ended) is) (ap (λ (t : State). t.before) is) (ap (λ (t : State). t.open_leg.services) is) (ap (λ (t : State). t.open_leg.changes) is)
+      (ap (λ (t : State). t.open_leg.steps) is) (ap (λ (t : State). t.rows) is)
 
 stands_next : (rows : List Row) (before : ℕ) (mode : Mode) (s : State) (statement : Statement) → Stands rows before s → IsSound s → DeclaresName statement
     → AreAcceptedAfter (with_services s.rows (declares statement)) (changes s.rows statement) → Fits mode s statement → Stands rows before (next s statement)
@@ -188,6 +241,7 @@ stands_next rows before mode s Silence h sound named k f = record {
   accepted = h.accepted;
   few = h.few;
   now = h.now;
+  steps = h.steps;
   before_is = h.before_is;
   few_legs = h.few_legs;
   more_legs = h.more_legs;

@@ -1,9 +1,7 @@
 -- What errors of the book are to the reading of a document.
 use Rattle.svc_graph.specs.declared.errors.ChangeError.{ChangeError}
 use Rattle.svc_graph.specs.declared.errors.ChangeError.TheVariants as error
-use Rattle.svc_graph.specs.declared.errors.DeclareError.{DeclareError}
-use Rattle.svc_graph.specs.declared.errors.DeclareError.TheVariants as declare
-use Rattle.document_reading.specs.declared.refusal.Code.TheVariants.{E05, E06, E08, E09, E10, E11, E13, E14, E15, E16}
+use Rattle.document_reading.specs.declared.refusal.Code.TheVariants.{E08, E09, E10, E11, E13, E14, E15, E16}
 use Rattle.document_reading.specs.declared.line_error.LineError.{LineError}
 use Rattle.document_reading.specs.declared.line_error.LineError.TheVariants.{Refused, OutOfMemory}
 
@@ -18,9 +16,3 @@ stop_of error.NotDerived = Refused E14
 stop_of error.Already = Refused E15
 stop_of error.NotMember = Refused E16
 stop_of error.OutOfMemory = OutOfMemory
-
--- a name that is declared, or no room for a service
-abbrev pub stop_of_declaring : DeclareError → LineError
-stop_of_declaring declare.Taken = Refused E05
-stop_of_declaring declare.Full = Refused E06
-stop_of_declaring declare.OutOfMemory = OutOfMemory

@@ -72,7 +72,7 @@ fn read_spoken<'a>(
 }
 
 /// What a line says; `Refused` exactly where it is too long, not UTF-8 or not in the grammar, with the first of `E02`, `E03`
-/// and `E04` that holds. Its tokens take the place of those in `tokens`.
+/// and `E04` that holds, and `OutOfMemory` only when memory runs out. `tokens` is room for its tokens.
 pub fn read_line<'a>(
     alloc: Global,
     line: &'a [u8],

@@ -1,7 +1,7 @@
 // Why the reading of a document ends at a line.
 use crate::refusal::Code;
 use std::alloc::AllocError;
-use svc_graph::{ChangeError, DeclareError};
+use svc_graph::ChangeError;
 use svc_value::OutOfMemory;
 
 /// Why the reading of a document ends at a line.
@@ -52,21 +52,6 @@ impl From<ChangeError> for LineError {
             ChangeError::Already => LineError::Refused(Code::E15),
             ChangeError::NotMember => LineError::Refused(Code::E16),
             ChangeError::OutOfMemory => LineError::OutOfMemory,
-        }
-    }
-}
-
-impl From<DeclareError> for LineError {
-    ghost use Rattle.document_reading.specs.Stops.{stop_of_declaring};
-    ghost use Rattle.std.specs.Prelude.{◌≡◌};
-
-    ghost from_gives = { λ error stop. stop ≡ stop_of_declaring error };
-
-    fn from(error: DeclareError) -> Self {
-        match error {
-            DeclareError::Taken => LineError::Refused(Code::E05),
-            DeclareError::Full => LineError::Refused(Code::E06),
-            DeclareError::OutOfMemory => LineError::OutOfMemory,
         }
     }
 }

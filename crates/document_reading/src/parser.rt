@@ -127,8 +127,7 @@ impl Parser {
         }
     }
 
-    /// Takes the next line; `Refused` exactly where it is not accepted, with the lowest-numbered code. Its tokens take the place of those
-    /// in `tokens`.
+    /// Takes the next line; `Refused` exactly where it is not accepted, with the lowest-numbered code. `tokens` is room for its tokens.
     pub(crate) fn take_line<'a>(
         &mut self,
         line: &'a [u8],

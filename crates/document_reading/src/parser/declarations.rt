@@ -11,7 +11,7 @@ use crate::line_error::LineError;
 use crate::parser::Parser;
 use crate::refusal::Code;
 use crate::statement::Body;
-use svc_graph::{Change, Definition, MAX_SERVICES};
+use svc_graph::{Change, Definition, Kind, MAX_SERVICES};
 use svc_plan::ServiceLine;
 use svc_token::NameRef;
 use svc_value::limits::MAX_RANK;
@@ -56,7 +56,7 @@ impl Parser {
         ensures taken { OnOk result (state self.new ≡ with_service (state self.old) (record { name = name.now; rank = rank; ty = ty })) }
         ensures mode { OnOk result (self.new.mode ≡ self.old.mode) }
     {
-        let id = self.book.declare(name.as_str(), rank, ty)?;
+        let id = self.book.add_service(name.as_str(), Kind { rank, ty })?;
         let name = Name::from_slice(self.alloc, name.as_str().as_bytes())?;
         self.open_leg.services.push(ServiceLine { name, rank, ty })?;
         Ok(id)

@@ -33,12 +33,12 @@ impl Parser {
         ensures numbers { IfOk result (λ ids. ids ≡ map (service_named self.now.book) names.now) }
         ensures answers { RefusesExactly result (code_where (list_any (is_unknown self.now.book) names.now) Code.E08) }
     {
-        let mut ids = Ids::new(self.alloc);
+        let mut ids = Vec::with_capacity(self.alloc, names.len())?;
         for name in names {
             let id = self.id(&NameRef::new(name.as_slice()))?;
-            ids.push(id)?;
+            ids.push_reserved(id);
         }
-        Ok(ids)
+        Ok(Ids::from_vec(ids))
     }
 
     // The services with these names, which are lent.
@@ -46,12 +46,12 @@ impl Parser {
         ensures numbers { IfOk result (λ ids. ids ≡ map (service_named self.now.book) names.now) }
         ensures answers { RefusesExactly result (code_where (list_any (is_unknown self.now.book) names.now) Code.E08) }
     {
-        let mut ids = Ids::new(self.alloc);
+        let mut ids = Vec::with_capacity(self.alloc, names.len())?;
         for name in names {
             let id = self.id(name)?;
-            ids.push(id)?;
+            ids.push_reserved(id);
         }
-        Ok(ids)
+        Ok(Ids::from_vec(ids))
     }
 
     // The formula over the services with its names.
