@@ -1,10 +1,15 @@
-//! Printed texts: the settled text of a document, which gives the value of every service after each leg.
+//! Printed texts: the settled text of a document, which gives the value of every service after each leg, and its trace lines,
+//! which give the log of each service, what each step line did, and the sources of each service.
 #![tactic(auto)]
 
 mod laws;
+mod note;
+mod printing;
 mod settled;
 #[cfg(test)]
 mod tests;
 
 pub use laws::settled_text_is_untraced;
+pub use note::StepNote;
+pub use printing::{sources_text, step_text, trace_text};
 pub use settled::settled_text;

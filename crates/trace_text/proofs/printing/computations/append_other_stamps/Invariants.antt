@@ -1,0 +1,13 @@
+use Rattle.std.proofs.Common.{◌≡◌, ◌<◌, ◌++◌, length}
+use Rattle.std.specs.Io.{StartsWith}
+use Rattle.std.specs.Prelude.{All}
+use Rattle.trace_text.specs.Named.{naming}
+use Rattle.trace_text.specs.Lines.{after_commas, stamp_text}
+use Rattle.trace_text.proofs.printing.computations.append_other_stamps.Given as goal
+
+abbrev pub invariant-loop-key : goal.invariant-loop-key
+invariant-loop-key l = record {
+  named : All (λ pair. pair.0 < length l.book) l.key-iterator;
+  kept : StartsWith l.out.items l.fn.out.items;
+  out : l.out.items ++ after_commas (stamp_text (naming l.book)) l.key-iterator ≡ l.fn.out.items ++ after_commas (stamp_text (naming l.book)) l.fn.pairs;
+}
