@@ -7,11 +7,11 @@ use Rattle.svc_value.specs.declared.value.Fault.TheVariants.{Overflow, Zero, Lon
 use Rattle.svc_value.specs.declared.value.Value.{Value}
 use Rattle.svc_value.specs.declared.value.Value.TheVariants.{Int, Words, Bad}
 use Rattle.svc_value.specs.Printed.{is_escaped, hex_escape, quoted_byte, fault_text, printed_value}
+use Rattle.trace_text.specs.Inside.Cutting.{Lacks}
 
 -- none of the bytes is LF
 abbrev pub Inside : List ℕ → Type 0
-Inside [] = Unit {0}
-Inside (b ∷ bytes) = (b ≢ 10) × Inside bytes
+Inside bytes = Lacks 10 bytes
 
 pub Inside-append : (xs ys : List ℕ) → Inside xs → Inside ys → Inside (xs ++ ys)
 Inside-append [] ys p q = q

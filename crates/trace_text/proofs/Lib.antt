@@ -1,5 +1,15 @@
+pub mod Words
+pub mod Texts
 pub mod Inside
 pub mod Lines
 pub mod Growing
 pub mod Walking
+pub mod LinesOf
 pub mod Untracing
+pub mod OneLine
+pub mod OneEntry
+pub mod EntryBytes
+pub mod OneFamily
+pub mod LeavingOut
+pub mod TracesSettle
+pub mod BookNames

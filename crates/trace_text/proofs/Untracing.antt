@@ -16,16 +16,11 @@ use Rattle.svc_value.specs.declared.value.Value.{Value}
 use Rattle.svc_value.specs.declared.value.Value.TheVariants.{Int}
 use Rattle.trace_text.specs.Names.{HaveNames}
 use Rattle.trace_text.specs.Settled.{value_line, value_lines, settle_line, settled_block, Settles}
-use Rattle.trace_text.specs.Untraced.{before_first, lines_of, is_traced, untraced}
+use Rattle.trace_text.specs.Untraced.{lines_of, is_traced, untraced}
 use Rattle.trace_text.proofs.Inside.{Inside, Inside-append, by_test, printed_inside}
+use Rattle.trace_text.proofs.LinesOf.{lines_line}
 
 -- ---- one line
-
-lines_line : (line rest : List ℕ) → Inside line → lines_of (line ++ 10 ∷ rest) ≡ (line ++ 10 ∷ []) ∷ lines_of rest
-lines_line [] rest p = refl
-lines_line (b ∷ line) rest p =
-    let other : (b == 10) ≡ false = ne_eqb b 10 p.0 in
-    rw other (ap (before_first b) (lines_line line rest p.1))
 
 -- a line that is no trace line stays
 line_stays : (line rest : List ℕ) → Inside line → is_traced (line ++ 10 ∷ []) ≡ false → untraced (line ++ 10 ∷ rest) ≡ (line ++ 10 ∷ []) ++ untraced rest
@@ -90,7 +85,7 @@ settle_stays k rest =
     let inside : Inside line = Inside-append (codes "settle ") (printed_value (Int (pos k))) (by_test (codes "settle ") refl) (printed_inside (Int (pos k))) in
     ap untraced (append_assoc line (10 ∷ []) rest) ∙ line_stays line rest inside refl
 
-block_stays : (k : ℕ) (rows : List Row) (values : List Value) (rest : List ℕ) → HaveNames rows →
+pub block_stays : (k : ℕ) (rows : List Row) (values : List Value) (rest : List ℕ) → HaveNames rows →
     untraced (settled_block k rows values ++ rest) ≡ settled_block k rows values ++ untraced rest
 block_stays k rows values rest names =
     let lines = value_lines rows values in
@@ -117,7 +112,7 @@ names_after_changes : (rows : List Row) (changes : List PlanChange) → HaveName
 names_after_changes rows [] names = names
 names_after_changes rows (change ∷ changes) names = names_after_changes (rows_after_change rows change.id change.change) changes (names_changed rows change.id change.change names)
 
-names_after : (rows : List Row) (leg : Leg) → HaveNames rows → AreServicesAfter rows leg.services → HaveNames (rows_after rows leg)
+pub names_after : (rows : List Row) (leg : Leg) → HaveNames rows → AreServicesAfter rows leg.services → HaveNames (rows_after rows leg)
 names_after rows leg names each = names_after_changes (with_services rows leg.services) leg.changes (names_append rows leg.services names each)
 
 -- the settled text of legs that can be taken has no trace lines

@@ -4,4 +4,10 @@ pub mod Untraced
 pub mod Naming
 pub mod Lines
 pub mod Named
+pub mod Entries
 pub mod Notes
+pub mod Blocks
+pub mod Traces
+pub mod Laws
+pub mod Reading
+pub mod Inside

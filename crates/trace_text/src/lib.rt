@@ -9,7 +9,10 @@ mod settled;
 #[cfg(test)]
 mod tests;
 
-pub use laws::settled_text_is_untraced;
+pub use laws::{
+    books_are_named, one_family, one_trace_line, settled_text_is_untraced, traces_are_left_out,
+    untraced_texts_settle,
+};
 pub use note::StepNote;
 pub use printing::{sources_text, step_text, trace_text};
 pub use settled::settled_text;
