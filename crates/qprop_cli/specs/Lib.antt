@@ -1,9 +1,8 @@
-pub mod Checked
-pub mod FrameStream
-pub mod FrameText
+pub mod Commands
+pub mod Ending
+pub mod Inside
+pub mod Numbers
 pub mod Outcome
 pub mod Refusals
-pub mod Run
 pub mod Status
-pub mod Stepping
 pub mod Streams

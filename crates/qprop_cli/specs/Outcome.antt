@@ -1,7 +1,6 @@
--- What a call has read and written when it ends.
-use Rattle.std.specs.Prelude.{ℕ, List, [], ◌++◌, Option, None, Some, IfSome}
+-- What a command accepts and refuses, and the text that is due. A new command has a row in each table.
+use Rattle.std.specs.Prelude.{◌≡◌, ℕ, List, [], ◌++◌, Option, None, Some}
 use Rattle.std.specs.Io.KnownBytes.{Appends}
-use Rattle.settle_core.specs.Net.{NetworkView}
 use Rattle.svc_plan.specs.declared.plan.Leg.{Leg}
 use Rattle.svc_plan.specs.declared.plan.Mode.{Mode}
 use Rattle.svc_plan.specs.declared.plan.Mode.TheVariants as mode
@@ -13,51 +12,12 @@ use Rattle.wire_frame.specs.declared.frame.Frame.{Frame}
 use Rattle.command_words.specs.declared.command.Command.{Command}
 use Rattle.command_words.specs.declared.command.Command.TheVariants.{Step, Check, Central, Frames, Make}
 use Rattle.command_words.specs.declared.size.Size.{Size}
-use Rattle.qprop_cli.specs.Checked.{accepted_line}
-use Rattle.qprop_cli.specs.FrameStream.{HasFrames, HasLines, IsStreamRefusal}
+use Rattle.qprop_cli.specs.Commands.Check.{accepted_line}
+use Rattle.qprop_cli.specs.Commands.Frames.{HasFrames, HasLines, IsStreamRefusal}
 use Rattle.qprop_cli.specs.Refusals.{refusal_line}
-use Rattle.qprop_cli.specs.Run.{HasDone}
 use Rattle.qprop_cli.specs.Streams.{ReadsWhole, ReadsUpTo, AddsBeginning}
 use Rattle.command_words.specs.Words.{usage_line}
 use Rattle.svc_value.specs.declared.limits.TheConstants.{MAX_DOCUMENT_LEN}
-
--- the source was read to its end, what it gave is a document with these legs, what was added is their settled text, and the network has
--- done them
-pub record SettledOutput (left_old left_new held_old held_new : Option (List ℕ)) (network : Option NetworkView) : Type 0 where
-  pub read : List ℕ
-  pub whole : ReadsWhole left_old left_new read
-  pub legs : List Leg
-  pub accepted : HasLegs mode.Step read legs
-  pub added : List ℕ
-  pub gained : Appends held_old held_new added
-  pub settles : Settles 0 [] legs added
-  pub network_done : IfSome network (λ n. HasDone legs n)
-
--- the source was read to its end, what it gave is a document with these legs, and its counts were added
-pub record CheckOutput (left_old left_new held_old held_new : Option (List ℕ)) : Type 0 where
-  pub read : List ℕ
-  pub whole : ReadsWhole left_old left_new read
-  pub legs : List Leg
-  pub accepted : HasLegs mode.Plain read legs
-  pub gained : Appends held_old held_new (accepted_line legs)
-
--- the source was read to its end, what it gave is a document with these legs, and their settled text was added
-pub record CentralOutput (left_old left_new held_old held_new : Option (List ℕ)) : Type 0 where
-  pub read : List ℕ
-  pub whole : ReadsWhole left_old left_new read
-  pub legs : List Leg
-  pub accepted : HasLegs mode.Plain read legs
-  pub added : List ℕ
-  pub gained : Appends held_old held_new added
-  pub settles : Settles 0 [] legs added
-
--- the source was read to its end, what it gave is a stream of frames, and what was added is a line for each
-pub record FramesOutput (left_old left_new held_old held_new : Option (List ℕ)) : Type 0 where
-  pub read : List ℕ
-  pub whole : ReadsWhole left_old left_new read
-  pub added : List ℕ
-  pub gained : Appends held_old held_new added
-  pub lines : HasLines read added
 
 -- what a command reads is accepted: a document, or a stream of frames; `make` reads nothing
 abbrev pub IsAcceptedBy : Command → List ℕ → Type 0
@@ -76,11 +36,16 @@ IsRefusedBy (Some Central) bytes refusal = IsRefusal mode.Plain bytes refusal
 IsRefusedBy (Some Frames) bytes refusal = IsStreamRefusal bytes refusal
 IsRefusedBy (Some (Make size)) bytes refusal = ⊥
 
--- what the source gave, to its end or one byte past the most that a command reads, has this refusal by the command
-pub record RefusesInput (command : Option Command) (left_old left_new : Option (List ℕ)) (refusal : Refusal) : Type 0 where
+-- what the source gave, to its end or one byte past the most that is read of it, has this refusal, and so has all that it had
+pub record Refuses (most : ℕ) (refused_by : List ℕ → Refusal → Type 0) (left_old left_new : Option (List ℕ)) (refusal : Refusal) : Type 0 where
   pub read : List ℕ
-  pub whole : ReadsUpTo MAX_DOCUMENT_LEN left_old left_new read
-  pub refused : IsRefusedBy command read refusal
+  pub whole : ReadsUpTo most left_old left_new read
+  pub refused : refused_by read refusal
+  pub all : (had : List ℕ) → left_old ≡ Some had → refused_by had refusal
+
+-- what the source gave has this refusal by the command
+abbrev pub RefusesInput : Option Command → Option (List ℕ) → Option (List ℕ) → Refusal → Type 0
+RefusesInput command left_old left_new refusal = Refuses MAX_DOCUMENT_LEN (IsRefusedBy command) left_old left_new refusal
 
 -- what the source gave is refused by the command, and the line of its refusal was added
 pub record RefusedOutput (command : Option Command) (left_old left_new held_old held_new : Option (List ℕ)) (refusal : Refusal) : Type 0 where

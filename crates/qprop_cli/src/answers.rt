@@ -6,11 +6,13 @@ ghost use Rattle.qprop_cli.specs.Refusals.{refusal_line};
 ghost use Rattle.qprop_cli.specs.Streams.{AddsBeginning};
 ghost use Rattle.command_words.specs.Words.{usage_line};
 
+mod refusal_line;
+
+use crate::io::writing::write_all;
 use crate::outcome::ended;
-use crate::refusing::refusal_text;
-use crate::writing::write_all;
 use crate::{Outcome, Status, USAGE};
 use document_reading::Refusal;
+use refusal_line::refusal_text;
 use std::alloc::Global;
 use svc_value::Sink;
 
@@ -28,9 +30,10 @@ pub(crate) fn usage<K: Sink>(sink: &mut K) -> Outcome
     }
 }
 
-/// Writes the refusal line.
+/// Writes the refusal line, in memory of `alloc`.
 pub(crate) fn refuse<K: Sink>(alloc: Global, refusal: Refusal, sink: &mut K) -> Outcome
     ensures ended { (result.status ≡ Status.Refused refusal) ⊎ (result.status ≡ Status.WriteFault) ⊎ (result.status ≡ Status.OutOfMemory) }
+    ensures refusal { (told : Refusal) → result.status ≡ Status.Refused told → told ≡ refusal }
     ensures network { result.network ≡ None }
     ensures written { result.status ≡ Status.Refused refusal → Appends (K.held sink.old) (K.held sink.new) (refusal_line refusal) }
     ensures fault { result.status ≡ Status.WriteFault → Rose (K.faults sink.old) (K.faults sink.new) }

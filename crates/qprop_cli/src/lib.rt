@@ -2,26 +2,15 @@
 #![tactic(auto)]
 
 mod answers;
-mod central;
-mod check;
-mod checking;
-mod evaluating;
-mod frame_text;
-mod frames;
-mod laws;
-mod make;
+mod command_error;
+mod commands;
+mod io;
 mod outcome;
 mod plain;
-mod reading;
-mod refusing;
-mod run;
-mod step;
-mod stepping;
-mod stream;
-mod writing;
+mod plan;
 
 pub use command_words::{Command, Size, USAGE};
-pub use laws::streams_are_told;
+pub use commands::streams_are_told;
 pub use outcome::{Outcome, Status};
 pub use plain::qprop_plain;
-pub use reading::MAX_DOCUMENT_LEN;
+pub use svc_value::limits::MAX_DOCUMENT_LEN;

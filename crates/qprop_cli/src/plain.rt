@@ -6,23 +6,24 @@ ghost use Rattle.document_reading.specs.declared.refusal.Refusal.{Refusal};
 ghost use Rattle.document_generator.specs.Generator.{generated};
 ghost use Rattle.command_words.specs.declared.size.Size.{Size};
 ghost use Rattle.svc_value.specs.Causes.{Rose};
-ghost use Rattle.qprop_cli.specs.Outcome.{SettledOutput, CheckOutput, CentralOutput, FramesOutput, IsAcceptedBy, RefusedOutput, AddsDue};
+ghost use Rattle.qprop_cli.specs.Commands.Central.{CentralOutput};
+ghost use Rattle.qprop_cli.specs.Commands.Check.{CheckOutput};
+ghost use Rattle.qprop_cli.specs.Commands.Frames.{FramesOutput};
+ghost use Rattle.qprop_cli.specs.Commands.Step.{SettledOutput};
+ghost use Rattle.qprop_cli.specs.Outcome.{IsAcceptedBy, RefusedOutput, AddsDue};
 ghost use Rattle.command_words.specs.Words.{command_of, usage_line};
 
-use crate::answers::usage;
-use crate::central::central;
-use crate::check::check;
-use crate::frames::frames;
-use crate::make::make;
+use crate::answers::{refuse, usage};
+use crate::command_error::CommandError;
+use crate::commands::perform;
 use crate::outcome::ended;
-use crate::step::step;
 use crate::{Command, Outcome, Status};
 use std::alloc::Global;
 use svc_value::{OutOfMemory, Sink, Source};
 
 /// Does what `words`, without the program's name, ask for. It reads from `source`, writes to `sink`, takes its memory from
 /// `alloc`, starts no thread and returns for every input. The clauses say how each status comes and what was written by then.
-#[tactic(auto, using(crate::proofs::Due::usage_due, crate::proofs::Due::made_due, command_words::proofs::Sizes::size_made))]
+#[tactic(auto, using(crate::proofs::DueLemmas::usage_due, crate::proofs::EndingLemmas::network_there))]
 pub fn qprop_plain<S: Source, K: Sink>(
     alloc: Global,
     words: &[String],
@@ -66,13 +67,19 @@ pub fn qprop_plain<S: Source, K: Sink>(
     ensures no_state { (result.status ≢ Status.NoState) × (result.status ≢ Status.BadState) }
     ensures no_verdict { result.status ≢ Status.Illegal }
 {
-    match Command::from_words(alloc, words) {
-        Ok(Some(Command::Step)) => step(alloc, source, sink),
-        Ok(Some(Command::Check)) => check(alloc, source, sink),
-        Ok(Some(Command::Central)) => central(alloc, source, sink),
-        Ok(Some(Command::Frames)) => frames(alloc, source, sink),
-        Ok(Some(Command::Make(size))) => make(alloc, size, sink),
-        Ok(None) => usage(sink),
-        Err(OutOfMemory) => ended(Status::OutOfMemory),
+    let command = match Command::from_words(alloc, words) {
+        Ok(Some(command)) => command,
+        Ok(None) => return usage(sink),
+        Err(OutOfMemory) => return ended(Status::OutOfMemory),
+    };
+    match perform(alloc, command, source, sink) {
+        Ok(network) => Outcome {
+            status: Status::Done,
+            network,
+        },
+        Err(CommandError::Refused(refusal)) => refuse(alloc, refusal, sink),
+        Err(CommandError::ReadFault) => ended(Status::ReadFault),
+        Err(CommandError::WriteFault) => ended(Status::WriteFault),
+        Err(CommandError::OutOfMemory) => ended(Status::OutOfMemory),
     }
 }

@@ -1,44 +1,87 @@
-use Rattle.std.proofs.Common.{map, ap, sym, ◌∙◌, Some}
+use Rattle.std.proofs.Common.{map, ap, sym, subst, ◌≡◌, ◌∙◌, inl, Some, Err}
 use Rattle.std.specs.String.{string_bytes}
+use Rattle.document_reading.specs.declared.refusal.Refusal.{Refusal}
 use Rattle.command_words.specs.declared.command.Command.TheVariants as command
 use Rattle.command_words.specs.Words.{command_of}
 use Rattle.command_words.proofs.Sizes.{size_made}
-use Rattle.qprop_cli.proofs.Complete.{completed}
+use Rattle.qprop_cli.specs.declared.outcome.Status.TheVariants.{Refused}
+use Rattle.qprop_cli.specs.Outcome.{RefusedOutput}
+use Rattle.qprop_cli.proofs.EndingLemmas.{refused_output, refusal_begun, keeps_behind, rose_later, performed, network_there, not_refused}
 use Rattle.qprop_cli.proofs.plain.qprop_plain.Goals as goal
 
-pub make-requires : goal.make-requires
-make-requires g c =
-    let case = c.in-Ok-Some-Make in
-    size_made (map string_bytes c.args.words.now) case.size (sym case.ensures.command ∙ case.field-0-is ∙ ap Some case.field-0-0-is)
+pub perform-requires : goal.perform-requires
+perform-requires g c =
+    let case = c.in-Ok-Some in
+    record { size = λ size is. size_made (map string_bytes c.args.words.now) size (sym case.ensures.command ∙ case.field-0-is ∙ ap Some is) }
 
-pub returns-in-Ok-Some-Step-clause-complete : goal.returns-in-Ok-Some-Step-clause-complete
-returns-in-Ok-Some-Step-clause-complete g c = λ own read same left accepted no_read no_write.
-    let case = c.in-Ok-Some-Step in
-    let ends = c.step.ensures in
-    completed (command_of (map string_bytes c.args.words.now)) command.Step own read (g.S.Source.left c.args.source.now) (g.S.Source.left c.step.new.source) c.step.result.status
-    (sym case.ensures.command ∙ case.field-0-is ∙ ap Some case.field-0-0-is) same left accepted ends.no_usage (λ refusal is. (ends.refused refusal is).input)
-    (λ is. no_read (ends.read_fault is)) (λ is. no_write (ends.write_fault is)) ends.no_keep_fault ends.no_state ends.no_verdict
+pub returns-in-Ok-clause-settled : goal.returns-in-Ok-clause-settled
+returns-in-Ok-clause-settled g c = λ own done.
+    let case = c.in-Ok-Some in
+    (performed (command_of (map string_bytes c.args.words.now)) case.command command.Step (g.S.Source.left c.args.source.now) (g.S.Source.left c.perform.new.source) (g.K.Sink.held c.args.sink.now) (g.K.Sink.held c.perform.new.sink)
+    c.in-Ok.network (sym case.field-0-is ∙ case.ensures.command) own (rw c.in-Ok.is at c.perform.ensures.ends.done)).0
 
-pub returns-in-Ok-Some-Check-clause-complete : goal.returns-in-Ok-Some-Check-clause-complete
-returns-in-Ok-Some-Check-clause-complete g c = λ own read same left accepted no_read no_write.
-    let case = c.in-Ok-Some-Check in
-    let ends = c.check.ensures in
-    completed (command_of (map string_bytes c.args.words.now)) command.Check own read (g.S.Source.left c.args.source.now) (g.S.Source.left c.check.new.source) c.check.result.status
-    (sym case.ensures.command ∙ case.field-0-is ∙ ap Some case.field-0-0-is) same left accepted ends.no_usage (λ refusal is. (ends.refused refusal is).input)
-    (λ is. no_read (ends.read_fault is)) (λ is. no_write (ends.write_fault is)) ends.no_keep_fault ends.no_state ends.no_verdict
+pub returns-in-Ok-clause-checked : goal.returns-in-Ok-clause-checked
+returns-in-Ok-clause-checked g c = λ own done.
+    let case = c.in-Ok-Some in
+    (performed (command_of (map string_bytes c.args.words.now)) case.command command.Check (g.S.Source.left c.args.source.now) (g.S.Source.left c.perform.new.source) (g.K.Sink.held c.args.sink.now) (g.K.Sink.held c.perform.new.sink)
+    c.in-Ok.network (sym case.field-0-is ∙ case.ensures.command) own (rw c.in-Ok.is at c.perform.ensures.ends.done)).0
 
-pub returns-in-Ok-Some-Central-clause-complete : goal.returns-in-Ok-Some-Central-clause-complete
-returns-in-Ok-Some-Central-clause-complete g c = λ own read same left accepted no_read no_write.
-    let case = c.in-Ok-Some-Central in
-    let ends = c.central.ensures in
-    completed (command_of (map string_bytes c.args.words.now)) command.Central own read (g.S.Source.left c.args.source.now) (g.S.Source.left c.central.new.source) c.central.result.status
-    (sym case.ensures.command ∙ case.field-0-is ∙ ap Some case.field-0-0-is) same left accepted ends.no_usage (λ refusal is. (ends.refused refusal is).input)
-    (λ is. no_read (ends.read_fault is)) (λ is. no_write (ends.write_fault is)) ends.no_keep_fault ends.no_state ends.no_verdict
+pub returns-in-Ok-clause-central : goal.returns-in-Ok-clause-central
+returns-in-Ok-clause-central g c = λ own done.
+    let case = c.in-Ok-Some in
+    (performed (command_of (map string_bytes c.args.words.now)) case.command command.Central (g.S.Source.left c.args.source.now) (g.S.Source.left c.perform.new.source) (g.K.Sink.held c.args.sink.now) (g.K.Sink.held c.perform.new.sink)
+    c.in-Ok.network (sym case.field-0-is ∙ case.ensures.command) own (rw c.in-Ok.is at c.perform.ensures.ends.done)).0
 
-pub returns-in-Ok-Some-Frames-clause-complete : goal.returns-in-Ok-Some-Frames-clause-complete
-returns-in-Ok-Some-Frames-clause-complete g c = λ own read same left accepted no_read no_write.
-    let case = c.in-Ok-Some-Frames in
-    let ends = c.frames.ensures in
-    completed (command_of (map string_bytes c.args.words.now)) command.Frames own read (g.S.Source.left c.args.source.now) (g.S.Source.left c.frames.new.source) c.frames.result.status
-    (sym case.ensures.command ∙ case.field-0-is ∙ ap Some case.field-0-0-is) same left accepted ends.no_usage (λ refusal is. (ends.refused refusal is).input)
-    (λ is. no_read (ends.read_fault is)) (λ is. no_write (ends.write_fault is)) ends.no_keep_fault ends.no_state ends.no_verdict
+pub returns-in-Ok-clause-frames : goal.returns-in-Ok-clause-frames
+returns-in-Ok-clause-frames g c = λ own done.
+    let case = c.in-Ok-Some in
+    (performed (command_of (map string_bytes c.args.words.now)) case.command command.Frames (g.S.Source.left c.args.source.now) (g.S.Source.left c.perform.new.source) (g.K.Sink.held c.args.sink.now) (g.K.Sink.held c.perform.new.sink)
+    c.in-Ok.network (sym case.field-0-is ∙ case.ensures.command) own (rw c.in-Ok.is at c.perform.ensures.ends.done)).0
+
+pub returns-in-Ok-clause-made : goal.returns-in-Ok-clause-made
+returns-in-Ok-clause-made g c = λ size own done.
+    let case = c.in-Ok-Some in
+    (performed (command_of (map string_bytes c.args.words.now)) case.command (command.Make size) (g.S.Source.left c.args.source.now) (g.S.Source.left c.perform.new.source) (g.K.Sink.held c.args.sink.now) (g.K.Sink.held c.perform.new.sink)
+    c.in-Ok.network (sym case.field-0-is ∙ case.ensures.command) own (rw c.in-Ok.is at c.perform.ensures.ends.done)).0
+
+pub returns-in-Ok-clause-network : goal.returns-in-Ok-clause-network
+returns-in-Ok-clause-network g c =
+    let case = c.in-Ok-Some in
+    network_there (command_of (map string_bytes c.args.words.now)) case.command (g.S.Source.left c.args.source.now) (g.S.Source.left c.perform.new.source) (g.K.Sink.held c.args.sink.now) (g.K.Sink.held c.perform.new.sink)
+    c.in-Ok.network (sym case.field-0-is ∙ case.ensures.command) (rw c.in-Ok.is at c.perform.ensures.ends.done)
+
+pub returns-in-Err-Refused-clause-refused : goal.returns-in-Err-Refused-clause-refused
+returns-in-Err-Refused-clause-refused g c = λ told is.
+    let case = c.in-Ok-Some in
+    let refusal = c.in-Err-Refused.refusal in
+    let error = c.in-Err-Refused.is ∙ ap Err c.in-Err-Refused.field-0-is in
+    let one : told ≡ refusal = c.refuse.ensures.refusal told is in
+    let P : Refusal → Type 0 = λ r. RefusedOutput (command_of (map string_bytes c.args.words.now)) (g.S.Source.left c.args.source.now) (g.S.Source.left c.perform.new.source) (g.K.Sink.held c.args.sink.now) (g.K.Sink.held c.refuse.new.sink) r in
+    subst P (sym one)
+    (refused_output (command_of (map string_bytes c.args.words.now)) case.command (sym case.field-0-is ∙ case.ensures.command) (g.S.Source.left c.args.source.now) (g.S.Source.left c.perform.new.source) (g.K.Sink.held c.args.sink.now) (g.K.Sink.held c.perform.new.sink) (g.K.Sink.held c.refuse.new.sink)
+    refusal (c.perform.ensures.ends.refused refusal error) (c.perform.ensures.ends.unanswered refusal error) (c.refuse.ensures.written (is ∙ ap Refused one)))
+
+pub returns-in-Err-Refused-clause-write_fault : goal.returns-in-Err-Refused-clause-write_fault
+returns-in-Err-Refused-clause-write_fault g c = λ is.
+    rose_later (g.K.Sink.faults c.args.sink.now) (g.K.Sink.faults c.perform.new.sink) (g.K.Sink.faults c.refuse.new.sink) c.perform.ensures.ends.later (c.refuse.ensures.fault is)
+
+pub returns-in-Err-Refused-clause-begun : goal.returns-in-Err-Refused-clause-begun
+returns-in-Err-Refused-clause-begun g c = λ is.
+    let case = c.in-Ok-Some in
+    let refusal = c.in-Err-Refused.refusal in
+    let error = c.in-Err-Refused.is ∙ ap Err c.in-Err-Refused.field-0-is in
+    refusal_begun (command_of (map string_bytes c.args.words.now)) case.command (sym case.field-0-is ∙ case.ensures.command) (g.S.Source.left c.args.source.now) (g.S.Source.left c.perform.new.source) (g.K.Sink.held c.args.sink.now) (g.K.Sink.held c.perform.new.sink) (g.K.Sink.held c.refuse.new.sink)
+    refusal (c.perform.ensures.ends.refused refusal error) (c.perform.ensures.ends.unanswered refusal error) (c.refuse.ensures.begun is)
+
+pub returns-in-Err-Refused-clause-memory : goal.returns-in-Err-Refused-clause-memory
+returns-in-Err-Refused-clause-memory g c = λ is.
+    let refusal = c.in-Err-Refused.refusal in
+    let error = c.in-Err-Refused.is ∙ ap Err c.in-Err-Refused.field-0-is in
+    inl (keeps_behind (g.K.Sink.held c.args.sink.now) (g.K.Sink.held c.perform.new.sink) (g.K.Sink.held c.refuse.new.sink) (c.perform.ensures.ends.unanswered refusal error) (c.refuse.ensures.nothing is))
+
+pub returns-in-Err-Refused-clause-complete : goal.returns-in-Err-Refused-clause-complete
+returns-in-Err-Refused-clause-complete g c = λ own read is left accepted no_read no_write.
+    let case = c.in-Ok-Some in
+    let refusal = c.in-Err-Refused.refusal in
+    let error = c.in-Err-Refused.is ∙ ap Err c.in-Err-Refused.field-0-is in
+    absurd (not_refused (command_of (map string_bytes c.args.words.now)) case.command own read (g.S.Source.left c.args.source.now) (g.S.Source.left c.perform.new.source) refusal (sym case.field-0-is ∙ case.ensures.command) is left accepted (c.perform.ensures.ends.refused refusal error))

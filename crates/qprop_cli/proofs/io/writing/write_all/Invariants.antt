@@ -1,0 +1,12 @@
+use Rattle.std.proofs.Common.{◌-◌, ◌≤◌, length, take}
+use Rattle.std.specs.Io.KnownBytes.{Appends}
+use Rattle.qprop_cli.proofs.io.writing.write_all.Given as goal
+
+abbrev pub invariant-loop-at : goal.invariant-loop-at
+invariant-loop-at g l =
+    (g.K.Sink.faults l.fn.sink ≤ g.K.Sink.faults l.sink) ×
+    (l.at ≤ length l.text) ×
+    Appends (g.K.Sink.held l.fn.sink) (g.K.Sink.held l.sink) (take l.at l.text)
+
+abbrev pub decreases-loop-at : goal.decreases-loop-at
+decreases-loop-at g l = length l.text - l.at

@@ -1,9 +1,0 @@
-use Rattle.std.proofs.Common.{◌≤◌, take}
-use Rattle.qprop_cli.specs.Run.{AddsSettled, HasDone}
-use Rattle.qprop_cli.proofs.run.settle_legs.Given as goal
-
-abbrev pub invariant-loop-i : goal.invariant-loop-i
-invariant-loop-i g l =
-    (g.K.Sink.faults l.fn.sink ≤ g.K.Sink.faults l.sink) ×
-    HasDone (take l.i l.legs) l.network ×
-    AddsSettled (g.K.Sink.held l.fn.sink) (g.K.Sink.held l.sink) (take l.i l.legs)

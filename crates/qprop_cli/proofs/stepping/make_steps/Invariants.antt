@@ -1,6 +1,0 @@
-use Rattle.std.proofs.Common.{take}
-use Rattle.qprop_cli.specs.Stepping.{HasStepped}
-use Rattle.qprop_cli.proofs.stepping.make_steps.Given as goal
-
-abbrev pub invariant-loop-step : goal.invariant-loop-step
-invariant-loop-step l = HasStepped (take l.step-index l.steps) l.fn.network l.network

@@ -1,0 +1,5 @@
+-- What the contracts of the crate's own functions cite: how a command works. No public contract rests on it.
+pub mod Blocks
+pub mod FrameLines
+pub mod Input
+pub mod StepLines

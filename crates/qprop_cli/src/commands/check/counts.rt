@@ -1,0 +1,43 @@
+// What an accepted document counts.
+ghost use Rattle.std.specs.Prelude.{◌≡◌, ◌≤◌, [], length, IfOk};
+ghost use Rattle.svc_plan.specs.Rows.{AreLegsAfter};
+ghost use Rattle.qprop_cli.specs.Commands.Check.{accepted_line, change_count, service_count};
+
+use std::alloc::Global;
+use svc_plan::Leg;
+use svc_value::limits::MAX_LEGS;
+use svc_value::{OutOfMemory, Value, print_value};
+
+// How many services the legs declare, and how many changes they make.
+fn counts(legs: &[Leg]) -> (u64, u64)
+    requires legs { AreLegsAfter [] legs.now }
+    requires few { length legs.now ≤ MAX_LEGS }
+    ensures services { result.0 ≡ service_count legs.now }
+    ensures changes { result.1 ≡ change_count legs.now }
+    ensures small { (result.0 ≤ 64000) × (result.1 ≤ 1024000) }
+{
+    let mut services = 0u64;
+    let mut changes = 0u64;
+    for leg in legs {
+        services += leg.services.len() as u64;
+        changes += leg.changes.len() as u64;
+    }
+    (services, changes)
+}
+
+/// The line of a document with these legs, in memory of `alloc`.
+pub(crate) fn accepted_text(alloc: Global, legs: &[Leg]) -> Result<Vec<u8>, OutOfMemory>
+    requires legs { AreLegsAfter [] legs.now }
+    requires few { length legs.now ≤ MAX_LEGS }
+    ensures { IfOk result (λ text. text.items ≡ accepted_line legs.now) }
+{
+    let (services, changes) = counts(legs);
+    let mut text = Vec::from_slice(alloc, b"accepted services=")?;
+    print_value(&Value::Int(services as i64), &mut text)?;
+    text.extend_from_slice(b" changes=")?;
+    print_value(&Value::Int(changes as i64), &mut text)?;
+    text.extend_from_slice(b" settles=")?;
+    print_value(&Value::Int(legs.len() as i64), &mut text)?;
+    text.extend_from_slice(b"\n")?;
+    Ok(text)
+}

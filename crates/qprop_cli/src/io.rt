@@ -1,0 +1,3 @@
+// Reading from a source and writing to a sink.
+pub(crate) mod reading;
+pub(crate) mod writing;
