@@ -10,6 +10,7 @@ use crate::reaching::{are_in_time, are_reached, clock_in};
 use stamp_clock::Stamps;
 use std::alloc::Global;
 use svc_graph::Book;
+use svc_value::limits::MAX_DEPENDENCIES;
 use svc_value::{OutOfMemory, ServiceId, Value};
 
 // The value of a service at the clocks of the stamps, which are those of all that it rests on.
@@ -26,9 +27,10 @@ fn value_in(
 {
     let order = book.rank_order()?;
     let mut values = no_values(alloc, book.len())?;
+    let mut given = Vec::with_capacity(alloc, MAX_DEPENDENCIES)?;
     for reader in order.as_slice() {
         if let Some(definition) = book.history(*reader).at(clock_in(stamps, *reader)) {
-            put_value(alloc, definition, *reader, &mut values)?;
+            put_value(alloc, definition, *reader, &mut values, &mut given)?;
         }
     }
     values[place(id)].copy()
