@@ -1,5 +1,6 @@
 pub mod Words
 pub mod Texts
+pub mod PrintedUtf8
 pub mod Inside
 pub mod Lines
 pub mod Growing
@@ -13,3 +14,12 @@ pub mod OneFamily
 pub mod LeavingOut
 pub mod TracesSettle
 pub mod BookNames
+pub mod Cuts
+pub mod Numbers
+pub mod Hexes
+pub mod Listing
+pub mod ListReading
+pub mod StampReading
+pub mod Marks
+pub mod EntryReading
+pub mod Pieces

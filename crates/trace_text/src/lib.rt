@@ -1,10 +1,11 @@
 //! Printed texts: the settled text of a document, which gives the value of every service after each leg, and its trace lines,
-//! which give the log of each service, what each step line did, and the sources of each service.
+//! which give the log of each service, what each step line did, and the sources of each service. Log lines are read again.
 #![tactic(auto)]
 
 mod laws;
 mod note;
 mod printing;
+mod reading;
 mod settled;
 #[cfg(test)]
 mod tests;
@@ -15,4 +16,5 @@ pub use laws::{
 };
 pub use note::StepNote;
 pub use printing::{sources_text, step_text, trace_text};
+pub use reading::read_log_line;
 pub use settled::settled_text;
