@@ -22,4 +22,5 @@ pub mod ListReading
 pub mod StampReading
 pub mod Marks
 pub mod EntryReading
+pub mod FamilyReading
 pub mod Pieces

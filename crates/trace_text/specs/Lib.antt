@@ -10,4 +10,5 @@ pub mod Blocks
 pub mod Traces
 pub mod Laws
 pub mod Reading
+pub mod ReadErrors
 pub mod Inside
