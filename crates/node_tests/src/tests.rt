@@ -14,5 +14,6 @@ mod refusals;
 mod reordering;
 mod rewiring;
 mod services;
+mod texts;
 mod waiting;
 mod written;

@@ -71,14 +71,18 @@ pub(crate) fn accept_all(
     Ok(changes)
 }
 
-/// The services of these names and ranks, without definitions.
-pub(crate) fn book_of(alloc: Global, services: &[(&str, u16)]) -> Result<Book, Fail> {
+/// The services of these names and ranks and of this type, without definitions.
+pub(crate) fn book_of(
+    alloc: Global,
+    ty: ValueType,
+    services: &[(&str, u16)],
+) -> Result<Book, Fail> {
     let mut book = Book::new(alloc);
     for (name, rank) in services {
         if *rank > 1000 {
             return Err("the rank is too high".into());
         }
-        book.declare(name, Rank(*rank), ValueType::Int)?;
+        book.declare(name, Rank(*rank), ty)?;
     }
     Ok(book)
 }

@@ -1,8 +1,8 @@
 // What a new reader is answered.
-use super::events::{Event, Happened, change_all, happen, open, unborn};
+use super::events::{Event, Happened, change_all, derive, happen, open, unborn};
 use super::offering::{offer, sends};
 use super::services::Service;
-use super::written::{derived, input};
+use super::written::input;
 use node_core::Turned;
 use std::alloc::Global;
 use std::process::Abort;
@@ -12,16 +12,10 @@ use svc_value::ServiceId;
 const SERVICES: [(&'static str, u16); 2] = [("x", 0), ("n", 1)];
 
 // The input 0, which is born as 3, and the service 1, which names it.
-fn two(alloc: Global) -> Result<Vec<Service>, Fail> {
-    let mut services = unborn(alloc, &SERVICES)?;
-    open(&mut services, 0, &[input(3)])?;
-    open(
-        &mut services,
-        1,
-        &[derived(alloc, "x", &[ServiceId(0)], &[])?],
-    )?;
-    change_all(&mut services)?;
-    Ok(services)
+fn born(alloc: Global, services: &mut [Service]) -> Result<(), Fail> {
+    open(services, 0, &[input(3)])?;
+    derive(alloc, services, 1, "x", &[ServiceId(0)], &[])?;
+    change_all(services)
 }
 
 const COMPUTED: [(Event, Happened); 1] = [(Event::Turn(0), Happened::Turned(Turned::Computed))];
@@ -46,9 +40,15 @@ fn answered(rt: &impl Abort, alloc: Global, services: &mut [Service]) -> Result<
     Ok(())
 }
 
+// All of it.
+fn played(rt: &impl Abort, alloc: Global, services: &mut [Service]) -> Result<(), Fail> {
+    born(alloc, services)?;
+    happen(rt, services, &COMPUTED)?;
+    answered(rt, alloc, services)
+}
+
 #[test]
 fn new_readers_are_answered(rt: HostRuntime) -> Result<(), Fail> {
-    let mut services = two(rt.alloc())?;
-    happen(&rt, &mut services, &COMPUTED)?;
-    answered(&rt, rt.alloc(), &mut services)
+    let mut services = unborn(rt.alloc(), &SERVICES)?;
+    played(&rt, rt.alloc(), &mut services)
 }

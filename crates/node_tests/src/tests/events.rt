@@ -1,11 +1,11 @@
 // Events of services, and the frames between them. A service is named by its number.
 use super::services::Service;
-use super::written::Written;
+use super::written::{Written, define, derived};
 use node_core::{Entry, Turned};
 use std::alloc::Global;
 use std::process::Abort;
 use std::test::Fail;
-use svc_value::{Bytes, ServiceId};
+use svc_value::{Bytes, ServiceId, ValueType};
 
 // The most frames that wait between two services, and the most rounds until all are at rest.
 const MANY: usize = 64;
@@ -34,15 +34,36 @@ pub(crate) enum Happened {
     Turned(Turned),
 }
 
-/// The services of these names and ranks, unborn.
-pub(crate) fn unborn(alloc: Global, services: &[(&str, u16)]) -> Result<Vec<Service>, Fail> {
+// One service more, unborn.
+fn add(
+    alloc: Global,
+    nodes: &mut Vec<Service>,
+    id: u16,
+    ty: ValueType,
+    services: &[(&str, u16)],
+) -> Result<(), Fail> {
+    let service = Service::new(alloc, ServiceId(id), ty, services)?;
+    Ok(nodes.push(service)?)
+}
+
+/// The services of these names and ranks and of this type, unborn.
+pub(crate) fn unborn_of(
+    alloc: Global,
+    ty: ValueType,
+    services: &[(&str, u16)],
+) -> Result<Vec<Service>, Fail> {
     let mut nodes = Vec::new(alloc);
     let mut id = 0u16;
     for _ in services {
-        nodes.push(Service::new(alloc, ServiceId(id), services)?)?;
+        add(alloc, &mut nodes, id, ty, services)?;
         id = id.wrapping_add(1);
     }
     Ok(nodes)
+}
+
+/// Those of whole numbers.
+pub(crate) fn unborn(alloc: Global, services: &[(&str, u16)]) -> Result<Vec<Service>, Fail> {
+    unborn_of(alloc, ValueType::Int, services)
 }
 
 /// The next leg of a service has these changes.
@@ -51,6 +72,32 @@ pub(crate) fn open(services: &mut [Service], id: u16, changes: &[Written]) -> Re
         return Err("there is no such service".into());
     };
     service.open(changes)
+}
+
+/// The next leg of a service is its birth by this formula.
+pub(crate) fn derive(
+    alloc: Global,
+    services: &mut [Service],
+    id: u16,
+    text: &str,
+    fixed: &[ServiceId],
+    members: &[ServiceId],
+) -> Result<(), Fail> {
+    let birth = derived(alloc, text, fixed, members)?;
+    open(services, id, &[birth])
+}
+
+/// The next leg of a service brings this formula in place of the one before.
+pub(crate) fn redefine(
+    alloc: Global,
+    services: &mut [Service],
+    id: u16,
+    text: &str,
+    fixed: &[ServiceId],
+    members: &[ServiceId],
+) -> Result<(), Fail> {
+    let change = define(alloc, text, fixed, members)?;
+    open(services, id, &[change])
 }
 
 /// The log of a service; empty where there is no such service.

@@ -1,10 +1,11 @@
 // What a service saw through another one does not fall when it changes what it reads.
-use super::events::{Event, Happened, change_all, happen, log, open, settle, unborn};
+use super::events::{Event, Happened, change_all, derive, happen, log, open, settle, unborn};
 use super::logs::{Row, computes};
 use super::services::Service;
-use super::written::{add, derived, input, set, take_out};
+use super::written::{add, input, set, take_out};
 use node_core::Turned;
 use std::alloc::Global;
+use std::process::Abort;
 use std::test::Fail;
 use svc_value::ServiceId;
 
@@ -19,20 +20,14 @@ const N: u16 = 3;
 const SERVICES: [(&'static str, u16); 4] = [("x", 0), ("b", 1), ("c", 1), ("n", 2)];
 
 // The input `x` is 1, `b` is `x`, `c` is `x * 100`, and `n` is the sum of `b`; all are at rest.
-fn settled(alloc: Global) -> Result<Vec<Service>, Fail> {
+fn settled(alloc: Global, services: &mut [Service]) -> Result<(), Fail> {
     let x = ServiceId(X);
-    let mut services = unborn(alloc, &SERVICES)?;
-    open(&mut services, X, &[input(1)])?;
-    open(&mut services, B, &[derived(alloc, "x", &[x], &[])?])?;
-    open(&mut services, C, &[derived(alloc, "x * 100", &[x], &[])?])?;
-    open(
-        &mut services,
-        N,
-        &[derived(alloc, "sum()", &[], &[ServiceId(B)])?],
-    )?;
-    change_all(&mut services)?;
-    settle(&mut services, 4)?;
-    Ok(services)
+    open(services, X, &[input(1)])?;
+    derive(alloc, services, B, "x", &[x], &[])?;
+    derive(alloc, services, C, "x * 100", &[x], &[])?;
+    derive(alloc, services, N, "sum()", &[], &[ServiceId(B)])?;
+    change_all(services)?;
+    settle(services, 4)
 }
 
 // In the next leg `x` becomes 2, and `n` drops `b` and adds `c`.
@@ -74,13 +69,19 @@ const AFTER: [Row<'static>; 2] = [
     (200, &[(X, 2), (C, 1), (N, 3)], &[2]),
 ];
 
+// The two legs.
+fn played(rt: &impl Abort, alloc: Global, services: &mut [Service]) -> Result<(), Fail> {
+    settled(alloc, services)?;
+    opened(services)?;
+    happen(rt, services, &EVENTS)?;
+    assert!(rt; computes(log(services, N), &BEFORE));
+    settle(services, 4)?;
+    assert!(rt; computes(log(services, N), &AFTER));
+    Ok(())
+}
+
 #[test]
 fn stamps_do_not_fall(rt: HostRuntime) -> Result<(), Fail> {
-    let mut services = settled(rt.alloc())?;
-    opened(&mut services)?;
-    happen(&rt, &mut services, &EVENTS)?;
-    assert!(rt; computes(log(&services, N), &BEFORE));
-    settle(&mut services, 4)?;
-    assert!(rt; computes(log(&services, N), &AFTER));
-    Ok(())
+    let mut services = unborn(rt.alloc(), &SERVICES)?;
+    played(&rt, rt.alloc(), &mut services)
 }

@@ -79,6 +79,17 @@ pub(crate) fn taken(
     node.take(sender, bytes)
 }
 
+/// The oldest frame to another service is handed over, and given back; whether there was one.
+pub(crate) fn given_back(node: &mut Node, to: ServiceId) -> bool
+    ensures { GoesOn node.old node.new }
+{
+    let Some(frame) = node.next_out(to) else {
+        return false;
+    };
+    node.give_back(to, frame);
+    true
+}
+
 /// The oldest frame to another service is handed over.
 pub(crate) fn handed_over(node: &mut Node, to: ServiceId) -> Option<Bytes>
     ensures { GoesOn node.old node.new }

@@ -1,8 +1,9 @@
 // Frames that are offered to a service in the middle, and why some are refused.
 ghost use Rattle.std.specs.Prelude.{◌<◌};
 
-use super::middle::middle;
+use super::middle::{born, middle};
 use super::offering::{Offer, offer};
+use super::services::Service;
 use node_core::TakeRefusal;
 use pred_queue::SlotError;
 use rewire_core::ReaderError;
@@ -96,12 +97,18 @@ const READERS: [Offer<'static>; 6] = [
     ),
 ];
 
+// All of them.
+fn answered(rt: &impl Abort, alloc: Global, service: &mut Service) -> Result<(), Fail> {
+    born(alloc, service)?;
+    offer(rt, alloc, service, &SOURCES)?;
+    offer(rt, alloc, service, &VALUES)?;
+    offer(rt, alloc, service, &READERS)
+}
+
 #[test]
 fn offered_frames_are_answered(rt: HostRuntime) -> Result<(), Fail> {
-    let mut node = middle(rt.alloc())?;
-    offer(&rt, rt.alloc(), &mut node, &SOURCES)?;
-    offer(&rt, rt.alloc(), &mut node, &VALUES)?;
-    offer(&rt, rt.alloc(), &mut node, &READERS)
+    let mut service = middle(rt.alloc())?;
+    answered(&rt, rt.alloc(), &mut service)
 }
 
 const FIRST: [Offer<'static>; 1] = [(0, &[3, 0, 0, 0, 1, 1, 0, 0], None)];
@@ -121,21 +128,29 @@ fn refusal_at(place: usize) -> Option<TakeRefusal> {
     Some(TakeRefusal::Frame { place, reason })
 }
 
-// The node answers the value whose byte at the place is 255.
-fn bent(rt: &impl Abort, alloc: Global, place: usize) -> Result<(), Fail>
+// The service answers the value whose byte at the place is 255.
+fn bent(rt: &impl Abort, alloc: Global, place: usize, service: &mut Service) -> Result<(), Fail>
     requires { place < 20 }
 {
-    let mut node = middle(alloc)?;
-    offer(rt, alloc, &mut node, &FIRST)?;
+    born(alloc, service)?;
+    offer(rt, alloc, service, &FIRST)?;
     let mut bytes = VALUE;
     bytes[place] = 0xff;
-    offer(rt, alloc, &mut node, &[(0, &bytes, refusal_at(place))])
+    offer(rt, alloc, service, &[(0, &bytes, refusal_at(place))])
+}
+
+// A new one does.
+fn bent_at(rt: &impl Abort, alloc: Global, place: usize) -> Result<(), Fail>
+    requires { place < 20 }
+{
+    let mut service = middle(alloc)?;
+    bent(rt, alloc, place, &mut service)
 }
 
 #[test]
 fn bent_frames_are_answered(rt: HostRuntime) -> Result<(), Fail> {
     for place in 0..20 {
-        bent(&rt, rt.alloc(), place)?;
+        bent_at(&rt, rt.alloc(), place)?;
     }
     Ok(())
 }

@@ -1,4 +1,4 @@
-// A reader that comes, goes and comes again in one leg.
+// A reader that comes, goes and comes again in one leg, and frames to it that are given back.
 use super::offering::{Offer, offer, sends};
 use super::services::Service;
 use super::written::input;
@@ -7,7 +7,7 @@ use rewire_core::ReaderError;
 use std::alloc::Global;
 use std::process::Abort;
 use std::test::Fail;
-use svc_value::{Clock, ServiceId};
+use svc_value::{Clock, ServiceId, ValueType};
 
 const SERVICES: [(&'static str, u16); 2] = [("x", 0), ("r", 1)];
 
@@ -31,13 +31,17 @@ const AGAIN: [Offer<'static>; 2] = [
 
 const LATER: [Offer<'static>; 1] = [(1, &[1, 0, 0, 0, 3], None)];
 
-// The input, which has computed 3.
-fn first(rt: &impl Abort, alloc: Global) -> Result<Service, Fail> {
-    let mut service = Service::new(alloc, ServiceId(0), &SERVICES)?;
+// The input, unborn.
+fn first(alloc: Global) -> Result<Service, Fail> {
+    Service::new(alloc, ServiceId(0), ValueType::Int, &SERVICES)
+}
+
+// It has computed 3.
+fn computed(rt: &impl Abort, service: &mut Service) -> Result<(), Fail> {
     service.open(&[input(3)])?;
     service.change()?;
     assert_eq!(rt; service.turn()?, Turned::Computed);
-    Ok(service)
+    Ok(())
 }
 
 // The last emission is sent under the epoch, and nothing else.
@@ -54,15 +58,38 @@ fn told(rt: &impl Abort, service: &mut Service, epoch: u8) {
     sends(rt, service, 1, &[]);
 }
 
+// The reader comes, goes and comes again.
+fn comes_again(rt: &impl Abort, alloc: Global, service: &mut Service) -> Result<(), Fail> {
+    computed(rt, service)?;
+    offer(rt, alloc, service, &SUBSCRIBE)?;
+    told(rt, service, 2);
+    offer(rt, alloc, service, &UNSUBSCRIBE)?;
+    offer(rt, alloc, service, &AGAIN)?;
+    sends(rt, service, 1, &[]);
+    offer(rt, alloc, service, &LATER)?;
+    told(rt, service, 3);
+    Ok(())
+}
+
 #[test]
 fn a_reader_comes_again(rt: HostRuntime) -> Result<(), Fail> {
-    let mut service = first(&rt, rt.alloc())?;
-    offer(&rt, rt.alloc(), &mut service, &SUBSCRIBE)?;
-    told(&rt, &mut service, 2);
-    offer(&rt, rt.alloc(), &mut service, &UNSUBSCRIBE)?;
-    offer(&rt, rt.alloc(), &mut service, &AGAIN)?;
-    sends(&rt, &mut service, 1, &[]);
-    offer(&rt, rt.alloc(), &mut service, &LATER)?;
-    told(&rt, &mut service, 3);
+    let mut service = first(rt.alloc())?;
+    comes_again(&rt, rt.alloc(), &mut service)
+}
+
+// A frame that is given back is handed over next.
+fn goes_back(rt: &impl Abort, alloc: Global, service: &mut Service) -> Result<(), Fail> {
+    computed(rt, service)?;
+    assert!(rt; !service.give_back(ServiceId(1)));
+    offer(rt, alloc, service, &SUBSCRIBE)?;
+    assert!(rt; service.give_back(ServiceId(1)));
+    told(rt, service, 2);
+    assert!(rt; !service.give_back(ServiceId(1)));
     Ok(())
+}
+
+#[test]
+fn a_frame_goes_back(rt: HostRuntime) -> Result<(), Fail> {
+    let mut service = first(rt.alloc())?;
+    goes_back(&rt, rt.alloc(), &mut service)
 }

@@ -1,5 +1,5 @@
 // Of several reasons to refuse a frame, the first is told: most rows meet the conditions of the next ones too.
-use super::middle::middle;
+use super::middle::{born, middle};
 use super::offering::{Offer, offer, sends};
 use super::services::Service;
 use node_core::{TakeRefusal, Turned};
@@ -38,12 +38,11 @@ fn computed(rt: &impl Abort, service: &mut Service) -> Result<(), Fail> {
 
 // The service in the middle has computed 3, of the service 0, which then announced its key under the epoch 2. Nothing waits to
 // be handed over.
-fn settled(rt: &impl Abort, alloc: Global) -> Result<Service, Fail> {
-    let mut service = middle(alloc)?;
-    taken(rt, alloc, &mut service)?;
-    computed(rt, &mut service)?;
-    offer(rt, alloc, &mut service, &AGAIN)?;
-    Ok(service)
+fn settled(rt: &impl Abort, alloc: Global, service: &mut Service) -> Result<(), Fail> {
+    born(alloc, service)?;
+    taken(rt, alloc, service)?;
+    computed(rt, service)?;
+    offer(rt, alloc, service, &AGAIN)
 }
 
 // Nothing waits to be handed over to the service before or behind.
@@ -66,9 +65,20 @@ fn refused(
 }
 
 // The settled service refuses these.
+fn settled_refuses(
+    rt: &impl Abort,
+    alloc: Global,
+    service: &mut Service,
+    offers: &[Offer<'_>],
+) -> Result<(), Fail> {
+    settled(rt, alloc, service)?;
+    refused(rt, alloc, service, offers)
+}
+
+// A new one does.
 fn refuses(rt: &impl Abort, alloc: Global, offers: &[Offer<'_>]) -> Result<(), Fail> {
-    let mut service = settled(rt, alloc)?;
-    refused(rt, alloc, &mut service, offers)
+    let mut service = middle(alloc)?;
+    settled_refuses(rt, alloc, &mut service, offers)
 }
 
 // Keys of a service that is not below, which are not its own, and of which one is unknown; keys without the sender's, of which one
@@ -269,13 +279,14 @@ fn goes(rt: &impl Abort, alloc: Global, service: &mut Service) -> Result<(), Fai
 }
 
 // A reader comes to the settled service, and goes.
-fn readers(rt: &impl Abort, alloc: Global) -> Result<(), Fail> {
-    let mut service = settled(rt, alloc)?;
-    reads(rt, alloc, &mut service)?;
-    goes(rt, alloc, &mut service)
+fn comes_and_goes(rt: &impl Abort, alloc: Global, service: &mut Service) -> Result<(), Fail> {
+    settled(rt, alloc, service)?;
+    reads(rt, alloc, service)?;
+    goes(rt, alloc, service)
 }
 
 #[test]
 fn the_first_reason_is_told_of_readers(rt: HostRuntime) -> Result<(), Fail> {
-    readers(&rt, rt.alloc())
+    let mut service = middle(rt.alloc())?;
+    comes_and_goes(&rt, rt.alloc(), &mut service)
 }

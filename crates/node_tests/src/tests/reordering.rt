@@ -1,10 +1,13 @@
 // A formula keeps two of four edges, drops two, adds two, and names them all in another order.
-use super::events::{Event, Happened, change_all, happen, log, open, settle, unborn};
+use super::events::{
+    Event, Happened, change_all, derive, happen, log, open, redefine, settle, unborn,
+};
 use super::logs::{Done, Row, begins, computes};
 use super::services::Service;
-use super::written::{define, derived, input, set};
+use super::written::{input, set};
 use node_core::Turned;
 use std::alloc::Global;
+use std::process::Abort;
 use std::test::Fail;
 use svc_value::ServiceId;
 
@@ -43,22 +46,18 @@ fn inputs(services: &mut [Service]) -> Result<(), Fail> {
 }
 
 // And `n` is by `d`, `b`, `c` and `a`; all are at rest.
-fn settled(alloc: Global) -> Result<Vec<Service>, Fail> {
+fn settled(alloc: Global, services: &mut [Service]) -> Result<(), Fail> {
     let (fixed, members) = ([ServiceId(D), ServiceId(B)], [ServiceId(C), ServiceId(A)]);
-    let mut services = unborn(alloc, &SERVICES)?;
-    inputs(&mut services)?;
-    let birth = derived(alloc, "d * b + sum()", &fixed, &members)?;
-    open(&mut services, N, &[birth])?;
-    change_all(&mut services)?;
-    settle(&mut services, 7)?;
-    Ok(services)
+    inputs(services)?;
+    derive(alloc, services, N, "d * b + sum()", &fixed, &members)?;
+    change_all(services)?;
+    settle(services, 7)
 }
 
 // In the next leg `b` is 13, and `n` is by `f`, `c`, `e` and `b`.
 fn opened(alloc: Global, services: &mut [Service]) -> Result<(), Fail> {
     let (fixed, members) = ([ServiceId(F), ServiceId(C)], [ServiceId(E), ServiceId(B)]);
-    let formula = define(alloc, "f * c - sum()", &fixed, &members)?;
-    open(services, N, &[formula])?;
+    redefine(alloc, services, N, "f * c - sum()", &fixed, &members)?;
     open(services, B, &[set(13)])?;
     for id in [A, C, D, E, F] {
         open(services, id, &[])?;
@@ -112,15 +111,21 @@ const COMPUTED: [Row<'static>; 2] = [
     (13, &[(B, 2), (C, 1), (E, 1), (F, 1), (N, 2)], &[1, 0, 1, 1]),
 ];
 
+// The two legs.
+fn played(rt: &impl Abort, alloc: Global, services: &mut [Service]) -> Result<(), Fail> {
+    settled(alloc, services)?;
+    opened(alloc, services)?;
+    happen(rt, services, &CHANGES)?;
+    assert!(rt; begins(log(services, N), &SENT));
+    happen(rt, services, &ANSWERS)?;
+    happen(rt, services, &TURNS)?;
+    settle(services, 7)?;
+    assert!(rt; computes(log(services, N), &COMPUTED));
+    Ok(())
+}
+
 #[test]
 fn edges_take_another_order(rt: HostRuntime) -> Result<(), Fail> {
-    let mut services = settled(rt.alloc())?;
-    opened(rt.alloc(), &mut services)?;
-    happen(&rt, &mut services, &CHANGES)?;
-    assert!(rt; begins(log(&services, N), &SENT));
-    happen(&rt, &mut services, &ANSWERS)?;
-    happen(&rt, &mut services, &TURNS)?;
-    settle(&mut services, 7)?;
-    assert!(rt; computes(log(&services, N), &COMPUTED));
-    Ok(())
+    let mut services = unborn(rt.alloc(), &SERVICES)?;
+    played(&rt, rt.alloc(), &mut services)
 }

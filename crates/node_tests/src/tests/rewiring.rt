@@ -1,10 +1,11 @@
 // An edge that comes, goes and comes again in one leg.
-use super::events::{Event, Happened, change_all, happen, log, open, settle, unborn};
+use super::events::{Event, Happened, change_all, derive, happen, log, open, settle, unborn};
 use super::logs::{Done, Row, computes, makes};
 use super::services::Service;
-use super::written::{add, derived, input, take_out};
+use super::written::{add, input, take_out};
 use node_core::Turned;
 use std::alloc::Global;
+use std::process::Abort;
 use std::test::Fail;
 use svc_value::ServiceId;
 
@@ -15,13 +16,11 @@ const N: u16 = 1;
 const SERVICES: [(&'static str, u16); 2] = [("p", 0), ("n", 1)];
 
 // The input `p`, born as 5, and the sum `n` of no members have computed.
-fn settled(alloc: Global) -> Result<Vec<Service>, Fail> {
-    let mut services = unborn(alloc, &SERVICES)?;
-    open(&mut services, P, &[input(5)])?;
-    open(&mut services, N, &[derived(alloc, "sum()", &[], &[])?])?;
-    change_all(&mut services)?;
-    settle(&mut services, 2)?;
-    Ok(services)
+fn settled(alloc: Global, services: &mut [Service]) -> Result<(), Fail> {
+    open(services, P, &[input(5)])?;
+    derive(alloc, services, N, "sum()", &[], &[])?;
+    change_all(services)?;
+    settle(services, 2)
 }
 
 // In the next leg `n` adds, drops and adds `p`.
@@ -74,13 +73,19 @@ const ANSWERED: [Done<'static>; 4] = [
 
 const COMPUTED: [Row<'static>; 1] = [(5, &[(P, 1), (N, 4)], &[1])];
 
+// The two legs.
+fn played(rt: &impl Abort, alloc: Global, services: &mut [Service]) -> Result<(), Fail> {
+    settled(alloc, services)?;
+    opened(services)?;
+    happen(rt, services, &EVENTS)?;
+    assert!(rt; makes(log(services, N), &ASKED));
+    assert!(rt; makes(log(services, P), &ANSWERED));
+    assert!(rt; computes(log(services, N), &COMPUTED));
+    Ok(())
+}
+
 #[test]
 fn edges_come_and_go(rt: HostRuntime) -> Result<(), Fail> {
-    let mut services = settled(rt.alloc())?;
-    opened(&mut services)?;
-    happen(&rt, &mut services, &EVENTS)?;
-    assert!(rt; makes(log(&services, N), &ASKED));
-    assert!(rt; makes(log(&services, P), &ANSWERED));
-    assert!(rt; computes(log(&services, N), &COMPUTED));
-    Ok(())
+    let mut services = unborn(rt.alloc(), &SERVICES)?;
+    played(&rt, rt.alloc(), &mut services)
 }

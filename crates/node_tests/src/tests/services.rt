@@ -1,13 +1,13 @@
 // Services by hand: each is a node, with a book in which its changes are accepted.
 use super::accepting::book_of;
-use super::nodes::{done, handed_over, opened, taken, turned};
+use super::nodes::{done, given_back, handed_over, opened, taken, turned};
 use super::written::Written;
 use node_core::{Node, TakeRefusal, Turned};
 use std::alloc::Global;
 use std::marker::Model;
 use std::test::Fail;
 use svc_graph::Book;
-use svc_value::{Bytes, OutOfMemory, ServiceId};
+use svc_value::{Bytes, OutOfMemory, ServiceId, ValueType};
 
 /// A service of a book.
 #[derive(Drop)]
@@ -36,13 +36,14 @@ impl Model for Service {
 }
 
 impl Service {
-    /// The unborn service of this number.
+    /// The unborn service of this number, among those of these names and ranks and of this type.
     pub(crate) fn new(
         alloc: Global,
         id: ServiceId,
+        ty: ValueType,
         services: &[(&str, u16)],
     ) -> Result<Service, Fail> {
-        let book = book_of(alloc, services)?;
+        let book = book_of(alloc, ty, services)?;
         if usize::from(id.0) >= book.len() || book.clock(id).0 != 0 {
             return Err("there is no such service".into());
         }
@@ -94,6 +95,11 @@ impl Service {
     /// The oldest frame to another service is handed over.
     pub(crate) fn next_out(&mut self, to: ServiceId) -> Option<Bytes> {
         handed_over(&mut self.node, to)
+    }
+
+    /// The oldest frame to another service is handed over, and given back; whether there was one.
+    pub(crate) fn give_back(&mut self, to: ServiceId) -> bool {
+        given_back(&mut self.node, to)
     }
 
     /// The node.

@@ -1,9 +1,9 @@
 // Values under an epoch that is still to come wait for the change that brings the edge.
-use super::events::{Event, Happened, change_all, happen, log, open, settle, unborn};
+use super::events::{Event, Happened, change_all, derive, happen, log, open, settle, unborn};
 use super::logs::{Row, computes};
 use super::offering::{Offer, offer};
 use super::services::Service;
-use super::written::{add, derived, input};
+use super::written::{add, input};
 use node_core::Turned;
 use std::alloc::Global;
 use std::process::Abort;
@@ -17,14 +17,12 @@ const N: u16 = 1;
 const SERVICES: [(&'static str, u16); 2] = [("p", 0), ("n", 1)];
 
 // The input `p` and the sum `n` of no members have computed, and in the next leg `n` adds `p`.
-fn opened(alloc: Global) -> Result<Vec<Service>, Fail> {
-    let mut services = unborn(alloc, &SERVICES)?;
-    open(&mut services, P, &[input(4)])?;
-    open(&mut services, N, &[derived(alloc, "sum()", &[], &[])?])?;
-    change_all(&mut services)?;
-    settle(&mut services, 2)?;
-    open(&mut services, N, &[add(ServiceId(P))])?;
-    Ok(services)
+fn opened(alloc: Global, services: &mut [Service]) -> Result<(), Fail> {
+    open(services, P, &[input(4)])?;
+    derive(alloc, services, N, "sum()", &[], &[])?;
+    change_all(services)?;
+    settle(services, 2)?;
+    open(services, N, &[add(ServiceId(P))])
 }
 
 // Under the present clock of `n`, which has no such edge, the value 4; and under the next one 5 and 6.
@@ -68,11 +66,17 @@ fn offered(rt: &impl Abort, alloc: Global, services: &mut [Service]) -> Result<(
     offer(rt, alloc, n, &OFFERS)
 }
 
+// The two legs.
+fn played(rt: &impl Abort, alloc: Global, services: &mut [Service]) -> Result<(), Fail> {
+    opened(alloc, services)?;
+    offered(rt, alloc, services)?;
+    happen(rt, services, &EVENTS)?;
+    assert!(rt; computes(log(services, N), &COMPUTED));
+    Ok(())
+}
+
 #[test]
 fn values_wait_for_their_edge(rt: HostRuntime) -> Result<(), Fail> {
-    let mut services = opened(rt.alloc())?;
-    offered(&rt, rt.alloc(), &mut services)?;
-    happen(&rt, &mut services, &EVENTS)?;
-    assert!(rt; computes(log(&services, N), &COMPUTED));
-    Ok(())
+    let mut services = unborn(rt.alloc(), &SERVICES)?;
+    played(&rt, rt.alloc(), &mut services)
 }

@@ -9,7 +9,7 @@ use std::marker::Model;
 use std::test::Fail;
 use svc_expr::{names_of, read_expr};
 use svc_graph::{Change, Definition, Formula};
-use svc_value::{Ids, OutOfMemory, ServiceId, Value};
+use svc_value::{Ids, OutOfMemory, ServiceId, Value, ValueText};
 
 /// A change whose value is no fault, or whose formula is within its limits.
 #[derive(Drop)]
@@ -80,6 +80,14 @@ pub(crate) fn input(number: i64) -> Written {
     Written {
         change: Change::Birth(Definition::Input(Value::Int(number))),
     }
+}
+
+/// The birth of an input of a text.
+pub(crate) fn text_input(alloc: Global, text: &str) -> Result<Written, Fail> {
+    let text = ValueText::new(alloc, text)?;
+    Ok(Written {
+        change: Change::Birth(Definition::Input(Value::Words(text))),
+    })
 }
 
 /// The birth of a derived service.
