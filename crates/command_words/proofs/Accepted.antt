@@ -1,18 +1,20 @@
--- clap takes the words that are accepted, and finds the numbers in them.
+-- clap takes the words that are accepted, and finds the numbers and the flags in them.
 use Rattle.std.proofs.Common.{◌≡◌, ◌∙◌, ◌&&◌, ◌==◌, ℕ, ap, sym, subst, Bool, true, false, List, [], ◌∷◌, Option, Some, None, refl, codes}
-use Rattle.std.specs.Prelude.{is_some, nat_eq, if◌then◌else◌}
+use Rattle.std.specs.Prelude.{is_some, if◌then◌else◌}
 use Rattle.std.specs.Char.{is_ascii_digit}
-use Rattle.std.specs.Cmp.Lexicographic.{pointwise}
-use Rattle.clap.specs.Words.{HasMatchesOf, Text, first_of, first_value, found_of, matches_of, takes}
+use Rattle.clap.specs.Words.{HasMatchesOf, Text, first_of, first_value, found_of, matches_of, one_text, takes}
 use Rattle.clap.specs.declared.parser.matches.ArgMatches.{ArgMatches}
 use Rattle.clap.proofs.OnLiterals.{clap_on_literals}
 use Rattle.clap.proofs.WalkLemmas.{first_value-rows}
 use Rattle.command_words.specs.declared.command.Command.{Command}
-use Rattle.command_words.specs.declared.command.Command.TheVariants.{Step, Check, Central, Frames, Make}
+use Rattle.command_words.specs.declared.command.Command.TheVariants.{Step, Check, Central, Frames, Make, Load}
 use Rattle.command_words.specs.declared.size.Size.{Size}
-use Rattle.command_words.specs.Taken.{make_taken, number_in, taken_by}
-use Rattle.command_words.specs.Words.{command_of, is_size, making, number_behind, number_value, size_of}
-use Rattle.command_words.proofs.PlainWords.{IsPlain, digit_is_plain, no_hyphen, make_takes, make_services, make_changes, make_start}
+use Rattle.command_words.specs.declared.trace_flags.TraceFlags.{TraceFlags}
+use Rattle.command_words.specs.Taken.{flag_text, load_taken, make_taken, number_in, sized, step_taken, taken_by}
+use Rattle.command_words.specs.Words.{command_of, number_behind, number_value, size_in, size_of}
+use Rattle.command_words.proofs.ByCommand.{by_command}
+use Rattle.command_words.proofs.PlainWords.{IsPlain, digit_is_plain, no_hyphen, numbers_take, services_found, changes_found, start_found}
+use Rattle.command_words.proofs.StepWords.{sources_found, step_takes, trace_found}
 
 -- ---- numbers are no flags
 
@@ -32,97 +34,94 @@ plain_number [] h = absurd (cc h)
 plain_number (digit ∷ []) h = plain_digit digit [] h
 plain_number (first ∷ second ∷ rest) h = plain_digit first (second ∷ rest) (second_given (first == 48) _ h)
 
--- ---- the numbers of `make`
+-- ---- the numbers of a size
 
-record HasNumbers (s c n : Option ℕ) (command : Command) : Type 0 where
+record HasNumbers (s c n : Option ℕ) : Type 0 where
   services : is_some s ≡ true
   changes : is_some c ≡ true
   start : is_some n ≡ true
-  size : Size
-  is : Make size ≡ command
 
-numbers : (s c n : Option ℕ) (command : Command) → making (size_of s c n) ≡ Some command → HasNumbers s c n command
-numbers None c n command e = absurd (cc e)
-numbers (Some s) None n command e = absurd (cc e)
-numbers (Some s) (Some c) None command e = absurd (cc e)
-numbers (Some s) (Some c) (Some n) command e = go (is_size s c n) e
-  where
-    made : Size
-    made = record { services = s; changes = c; start = n }
+numbers : (s c n : Option ℕ) (size : Size) → size_of s c n ≡ Some size → HasNumbers s c n
+numbers None c n size e = absurd (cc e)
+numbers (Some s) None n size e = absurd (cc e)
+numbers (Some s) (Some c) None size e = absurd (cc e)
+numbers (Some s) (Some c) (Some n) size e = record { services = refl; changes = refl; start = refl }
 
-    go : (b : Bool) → making (if b then Some made else None) ≡ Some command → HasNumbers (Some s) (Some c) (Some n) command
-    go true e = record { services = refl; changes = refl; start = refl; size = made; is = let same : Make made ≡ command = cc e in same }
-    go false e = absurd (cc e)
+module _ (name first : Text) where
+  size_takes : (behind : List Text) (size : Size) → size_in behind ≡ Some size → takes (sized name) (first ∷ behind) ≡ true
+  size_takes [] size e = absurd (cc e)
+  size_takes (a ∷ []) size e = absurd (cc e)
+  size_takes (a ∷ b ∷ []) size e = absurd (cc e)
+  size_takes (a ∷ b ∷ c ∷ []) size e =
+      let h = numbers (number_value a) (number_value b) (number_value c) size e in
+      numbers_take name a b c (plain_number a h.services) (plain_number b h.changes) (plain_number c h.start) first
+  size_takes (a ∷ b ∷ c ∷ d ∷ rest) size e = absurd (cc e)
 
-module _ (first a b c : Text) where
-  abbrev words : List Text
-  words = first ∷ a ∷ b ∷ c ∷ []
-
-  -- what the numbers stand for
-  abbrev made : Option Command
-  made = making (size_of (number_value a) (number_value b) (number_value c))
-
-  made_takes : (command : Command) → made ≡ Some command → takes (taken_by command) words ≡ true
-  made_takes command e =
-      let h = numbers (number_value a) (number_value b) (number_value c) command e in
-      subst (λ (k : Command). takes (taken_by k) words ≡ true) h.is
-      (make_takes a b c (plain_number a h.services) (plain_number b h.changes) (plain_number c h.start) first)
-
-  made_again : (command : Command) (m : ArgMatches) → made ≡ Some command → HasMatchesOf make_taken words m
-      → making (size_of (number_in (first_value (found_of m) (codes "services"))) (number_in (first_value (found_of m) (codes "changes"))) (number_in (first_value (found_of m) (codes "start")))) ≡ made
-  made_again command m e found =
-      let h = numbers (number_value a) (number_value b) (number_value c) command e in
+  -- the size that clap finds is the one that the words are
+  pub size_found : (behind : List Text) (size : Size) (m : ArgMatches) → size_in behind ≡ Some size → HasMatchesOf (sized name) (first ∷ behind) m
+      → size_of (number_in (first_value (found_of m) (codes "services"))) (number_in (first_value (found_of m) (codes "changes"))) (number_in (first_value (found_of m) (codes "start"))) ≡ Some size
+  size_found [] size m e found = absurd (cc e)
+  size_found (a ∷ []) size m e found = absurd (cc e)
+  size_found (a ∷ b ∷ []) size m e found = absurd (cc e)
+  size_found (a ∷ b ∷ c ∷ []) size m e found =
+      let h = numbers (number_value a) (number_value b) (number_value c) size e in
       let pa = plain_number a h.services in
       let pb = plain_number b h.changes in
       let pc = plain_number c h.start in
-      let value : (id t : Text) → first_of id (matches_of make_taken words) ≡ Some t → first_value (found_of m) id ≡ Some t
+      let value : (id t : Text) → first_of id (matches_of (sized name) (first ∷ a ∷ b ∷ c ∷ [])) ≡ Some t → first_value (found_of m) id ≡ Some t
       = λ id t is. first_value-rows (found_of m) id ∙ ap (first_of id) (found refl).0 ∙ is in
-      rw (value (codes "services") a (make_services a b c pa pb pc first), value (codes "changes") b (make_changes a b c pa pb pc first), value (codes "start") c (make_start a b c pa pb pc first)) refl
+      rw (value (codes "services") a (services_found name a b c pa pb pc first), value (codes "changes") b (changes_found name a b c pa pb pc first), value (codes "start") c (start_found name a b c pa pb pc first)) e
+  size_found (a ∷ b ∷ c ∷ d ∷ rest) size m e found = absurd (cc e)
 
 -- ---- all words
 
-one_takes : (b1 b2 b3 b4 : Bool) (first : Text) (command : Command)
-    → (if b1 then Some Step else (if b2 then Some Check else (if b3 then Some Central else (if b4 then Some Frames else None)))) ≡ Some command
-    → takes (taken_by command) (first ∷ []) ≡ true
-unfolding clap_on_literals
-one_takes true b2 b3 b4 first command e = subst (λ (k : Command). takes (taken_by k) (first ∷ []) ≡ true) (let same : Step ≡ command = cc e in same) refl
-one_takes false true b3 b4 first command e = subst (λ (k : Command). takes (taken_by k) (first ∷ []) ≡ true) (let same : Check ≡ command = cc e in same) refl
-one_takes false false true b4 first command e = subst (λ (k : Command). takes (taken_by k) (first ∷ []) ≡ true) (let same : Central ≡ command = cc e in same) refl
-one_takes false false false true first command e = subst (λ (k : Command). takes (taken_by k) (first ∷ []) ≡ true) (let same : Frames ≡ command = cc e in same) refl
-one_takes false false false false first command e = absurd (cc e)
-
-if_given : (t : Bool) (o : Option Command) (command : Command) → (if t then o else None) ≡ Some command → ((if t then o else None) ≡ o) × (o ≡ Some command)
-if_given true o command e = (refl, e)
-if_given false o command e = absurd (cc e)
+bare_takes : (first : Text) (behind : List Text) (command : Command) → takes (taken_by command) (first ∷ []) ≡ true → behind ≡ [] → takes (taken_by command) (first ∷ behind) ≡ true
+bare_takes first behind command h is = subst (λ (words : List Text). takes (taken_by command) (first ∷ words) ≡ true) (sym is) h
 
 -- clap takes them
 pub accepted_takes : (words : List Text) (command : Command) → command_of words ≡ Some command → takes (taken_by command) words ≡ true
+unfolding clap_on_literals
 accepted_takes [] command e = absurd (cc e)
-accepted_takes (first ∷ []) command e =
-    one_takes (pointwise nat_eq first (codes "step")) (pointwise nat_eq first (codes "check")) (pointwise nat_eq first (codes "central")) (pointwise nat_eq first (codes "frames")) first command e
-accepted_takes (first ∷ a ∷ []) command e = absurd (cc e)
-accepted_takes (first ∷ a ∷ b ∷ []) command e = absurd (cc e)
-accepted_takes (first ∷ a ∷ b ∷ c ∷ []) command e = made_takes first a b c command (if_given (pointwise nat_eq first (codes "make")) _ command e).1
-accepted_takes (first ∷ a ∷ b ∷ c ∷ d ∷ rest) command e = absurd (cc e)
+accepted_takes (first ∷ behind) command e =
+    by_command (λ command. takes (taken_by command) (first ∷ behind) ≡ true) first behind
+    (step_takes first behind) (size_takes (codes "make") first behind) (size_takes (codes "load") first behind)
+    (bare_takes first behind Check refl) (bare_takes first behind Central refl) (bare_takes first behind Frames refl)
+    command e
 
-no_size : (b1 b2 b3 b4 : Bool) (size : Size)
-    → (if b1 then Some Step else (if b2 then Some Check else (if b3 then Some Central else (if b4 then Some Frames else None)))) ≡ Some (Make size) → ⊥
-no_size true b2 b3 b4 size e = cc e
-no_size false true b3 b4 size e = cc e
-no_size false false true b4 size e = cc e
-no_size false false false true size e = cc e
-no_size false false false false size e = cc e
+-- and it finds in them the flags of `step`,
+pub accepted_flags : (words : List Text) (flags : TraceFlags) (m : ArgMatches) → command_of words ≡ Some (Step flags) → HasMatchesOf step_taken words m
+    → (one_text (found_of m) (codes "trace") ≡ Some (flag_text flags.trace)) × (one_text (found_of m) (codes "sources") ≡ Some (flag_text flags.sources))
+accepted_flags [] flags m e found = absurd (cc e)
+accepted_flags (first ∷ behind) flags m e found =
+    by_command (λ command. command ≡ Step flags → (one_text (found_of m) (codes "trace") ≡ Some (flag_text flags.trace)) × (one_text (found_of m) (codes "sources") ≡ Some (flag_text flags.sources))) first behind
+    (λ given h is.
+    let same : given ≡ flags = cc is in
+    let are = h ∙ ap Some same in
+    (trace_found first behind flags are m found, sources_found first behind flags are m found))
+    (λ size h is. absurd (cc is)) (λ size h is. absurd (cc is))
+    (λ h is. absurd (cc is)) (λ h is. absurd (cc is)) (λ h is. absurd (cc is))
+    (Step flags) e refl
 
--- and what it finds for `make` are the numbers that they stand for
-pub accepted_size : (words : List Text) (size : Size) (m : ArgMatches) → command_of words ≡ Some (Make size) → HasMatchesOf make_taken words m
-    → making (size_of (number_in (first_value (found_of m) (codes "services"))) (number_in (first_value (found_of m) (codes "changes"))) (number_in (first_value (found_of m) (codes "start"))))
-    ≡ command_of words
-accepted_size [] size m e found = absurd (cc e)
-accepted_size (first ∷ []) size m e found =
-    absurd (no_size (pointwise nat_eq first (codes "step")) (pointwise nat_eq first (codes "check")) (pointwise nat_eq first (codes "central")) (pointwise nat_eq first (codes "frames")) size e)
-accepted_size (first ∷ a ∷ []) size m e found = absurd (cc e)
-accepted_size (first ∷ a ∷ b ∷ []) size m e found = absurd (cc e)
-accepted_size (first ∷ a ∷ b ∷ c ∷ []) size m e found =
-    let given = if_given (pointwise nat_eq first (codes "make")) _ (Make size) e in
-    made_again first a b c (Make size) m given.1 found ∙ sym given.0
-accepted_size (first ∷ a ∷ b ∷ c ∷ d ∷ rest) size m e found = absurd (cc e)
+-- and the sizes of `make` and `load`
+abbrev pub size_in_matches : ArgMatches → Option Size
+size_in_matches m = size_of (number_in (first_value (found_of m) (codes "services"))) (number_in (first_value (found_of m) (codes "changes"))) (number_in (first_value (found_of m) (codes "start")))
+
+pub accepted_make : (words : List Text) (size : Size) (m : ArgMatches) → command_of words ≡ Some (Make size) → HasMatchesOf make_taken words m → size_in_matches m ≡ Some size
+accepted_make [] size m e found = absurd (cc e)
+accepted_make (first ∷ behind) size m e found =
+    by_command (λ command. command ≡ Make size → size_in_matches m ≡ Some size) first behind
+    (λ flags h is. absurd (cc is))
+    (λ given h is. size_found (codes "make") first behind size m (h ∙ ap Some (let same : given ≡ size = cc is in same)) found)
+    (λ given h is. absurd (cc is))
+    (λ h is. absurd (cc is)) (λ h is. absurd (cc is)) (λ h is. absurd (cc is))
+    (Make size) e refl
+
+pub accepted_load : (words : List Text) (size : Size) (m : ArgMatches) → command_of words ≡ Some (Load size) → HasMatchesOf load_taken words m → size_in_matches m ≡ Some size
+accepted_load [] size m e found = absurd (cc e)
+accepted_load (first ∷ behind) size m e found =
+    by_command (λ command. command ≡ Load size → size_in_matches m ≡ Some size) first behind
+    (λ flags h is. absurd (cc is))
+    (λ given h is. absurd (cc is))
+    (λ given h is. size_found (codes "load") first behind size m (h ∙ ap Some (let same : given ≡ size = cc is in same)) found)
+    (λ h is. absurd (cc is)) (λ h is. absurd (cc is)) (λ h is. absurd (cc is))
+    (Load size) e refl

@@ -1,3 +1,6 @@
 mod Accepted
+mod ByCommand
+mod FlagWords
 mod PlainWords
 pub mod Sizes
+mod StepWords

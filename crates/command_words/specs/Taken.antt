@@ -1,9 +1,9 @@
 -- The commands as clap takes them.
-use Rattle.std.specs.Prelude.{ℕ, true, Option, None, Some, codes}
+use Rattle.std.specs.Prelude.{ℕ, Bool, true, false, Option, None, Some, codes}
 use Rattle.clap.specs.Words.{App, Rule, Text, new_app, new_rule, with_rule}
-use Rattle.clap.specs.declared.builder.ArgAction.TheVariants.{Set}
+use Rattle.clap.specs.declared.builder.ArgAction.TheVariants.{Set, SetTrue}
 use Rattle.command_words.specs.declared.command.Command.{Command}
-use Rattle.command_words.specs.declared.command.Command.TheVariants.{Step, Check, Central, Frames, Make}
+use Rattle.command_words.specs.declared.command.Command.TheVariants.{Step, Check, Central, Frames, Make, Load}
 use Rattle.command_words.specs.Words.{number_value}
 
 -- a command without arguments, and without a flag for help
@@ -14,9 +14,17 @@ bare name = record (new_app name) { top = record (new_app name).top { disable_he
 abbrev pub place : Text → Rule
 place name = record (new_rule name) { required = true; action = Some Set }
 
--- `step`, without arguments
+-- a flag, `--` and its name, that is there or not
+abbrev pub flag : Text → Rule
+flag name = record (new_rule name) { long = Some name; action = Some SetTrue }
+
+-- a command with the three numbers of a size
+abbrev pub sized : Text → App
+sized name = with_rule (with_rule (with_rule (bare name) (place (codes "services"))) (place (codes "changes"))) (place (codes "start"))
+
+-- `step` with its two flags
 abbrev pub step_taken : App
-step_taken = bare (codes "step")
+step_taken = with_rule (with_rule (bare (codes "step")) (flag (codes "trace"))) (flag (codes "sources"))
 
 -- `check`, without arguments
 abbrev pub check_taken : App
@@ -32,17 +40,27 @@ frames_taken = bare (codes "frames")
 
 -- `make` with its three numbers
 abbrev pub make_taken : App
-make_taken = with_rule (with_rule (with_rule (bare (codes "make")) (place (codes "services"))) (place (codes "changes"))) (place (codes "start"))
+make_taken = sized (codes "make")
+
+-- `load` with its three numbers
+abbrev pub load_taken : App
+load_taken = sized (codes "load")
 
 -- what clap is to take for a command
 abbrev pub taken_by : Command → App
-taken_by Step = step_taken
+taken_by (Step flags) = step_taken
 taken_by Check = check_taken
 taken_by Central = central_taken
 taken_by Frames = frames_taken
 taken_by (Make size) = make_taken
+taken_by (Load size) = load_taken
 
 -- the number that a text is, if there is one
 abbrev pub number_in : Option Text → Option ℕ
 number_in None = None
 number_in (Some text) = number_value text
+
+-- the text under which clap keeps whether a flag is there
+abbrev pub flag_text : Bool → Text
+flag_text true = codes "true"
+flag_text false = codes "false"

@@ -1,10 +1,12 @@
 -- The words of a command.
-use Rattle.std.specs.Prelude.{ℕ, ◌+◌, ◌-◌, ◌*◌, ◌≤◌, ◌==◌, ◌&&◌, Bool, nat_le, List, [], ◌∷◌, Option, Some, None, nat_eq, codes, if◌then◌else◌}
+use Rattle.std.specs.Prelude.{ℕ, ◌+◌, ◌-◌, ◌*◌, ◌≤◌, ◌==◌, ◌&&◌, ◌||◌, Bool, true, not, nat_le, List, [], ◌∷◌, Option, Some, None, nat_eq, codes, count_by, if◌then◌else◌}
+use Rattle.std.specs.List.{list_all}
 use Rattle.std.specs.Char.{is_ascii_digit}
 use Rattle.std.specs.Cmp.Lexicographic.{pointwise}
 use Rattle.command_words.specs.declared.command.Command.{Command}
-use Rattle.command_words.specs.declared.command.Command.TheVariants.{Step, Check, Central, Frames, Make}
+use Rattle.command_words.specs.declared.command.Command.TheVariants.{Step, Check, Central, Frames, Make, Load}
 use Rattle.command_words.specs.declared.size.Size.{Size}
+use Rattle.command_words.specs.declared.trace_flags.TraceFlags.{TraceFlags}
 use Rattle.svc_value.specs.declared.limits.TheConstants.{MAX_CHANGES, MAX_SERVICES}
 
 -- ---- numbers
@@ -41,28 +43,70 @@ pub record IsSize (size : Size) : Type 0 where
   pub changes : size.changes ≤ MAX_CHANGES
   pub start : size.start ≤ 65536
 
+-- the size that three words are
+abbrev pub size_in : List (List ℕ) → Option Size
+size_in (services ∷ changes ∷ start ∷ []) = size_of (number_value services) (number_value changes) (number_value start)
+size_in words = None
+
+-- ---- flags
+
+-- the word is a flag
+abbrev pub is_flag : List ℕ → Bool
+is_flag word = pointwise nat_eq word (codes "--trace") || pointwise nat_eq word (codes "--sources")
+
+-- the flags with one more, if the word is a flag that is not among them
+abbrev pub with_flag : TraceFlags → List ℕ → Option TraceFlags
+with_flag flags word =
+    if pointwise nat_eq word (codes "--trace") && not flags.trace then Some (record flags { trace = true })
+    else (if pointwise nat_eq word (codes "--sources") && not flags.sources then Some (record flags { sources = true })
+    else None)
+
+-- how often a flag is among the words
+abbrev pub how_often : List ℕ → List (List ℕ) → ℕ
+how_often flag words = count_by (λ word. pointwise nat_eq word flag) words
+
+-- the flags that words are: each word is a flag, and none is there twice
+abbrev pub flags_of : List (List ℕ) → Option TraceFlags
+flags_of words =
+    let traces = how_often (codes "--trace") words in
+    let sources = how_often (codes "--sources") words in
+    if list_all is_flag words && (nat_le traces 1 && nat_le sources 1)
+    then Some (record { trace = nat_eq traces 1; sources = nat_eq sources 1 }) else None
+
 -- ---- commands
 
--- the command that one word stands for, if it does
-abbrev pub command_named : List ℕ → Option Command
-command_named word =
-    if pointwise nat_eq word (codes "step") then Some Step
-    else (if pointwise nat_eq word (codes "check") then Some Check
-    else (if pointwise nat_eq word (codes "central") then Some Central
-    else (if pointwise nat_eq word (codes "frames") then Some Frames
-    else None)))
+-- the command of this name that no words follow, if it is one
+abbrev pub command_named : List ℕ → List (List ℕ) → Option Command
+command_named name [] =
+    if pointwise nat_eq name (codes "check") then Some Check
+    else (if pointwise nat_eq name (codes "central") then Some Central
+    else (if pointwise nat_eq name (codes "frames") then Some Frames
+    else None))
+command_named name (word ∷ words) = None
+
+-- the command `step` with these flags, if they are flags
+abbrev pub stepping : Option TraceFlags → Option Command
+stepping None = None
+stepping (Some flags) = Some (Step flags)
 
 -- the command `make` of a size, if there is one
 abbrev pub making : Option Size → Option Command
 making None = None
 making (Some size) = Some (Make size)
 
+-- the command `load` of a size, if there is one
+abbrev pub loading : Option Size → Option Command
+loading None = None
+loading (Some size) = Some (Load size)
+
 -- the command that the words stand for; none where they are not accepted
 abbrev pub command_of : List (List ℕ) → Option Command
-command_of (first ∷ []) = command_named first
-command_of (first ∷ services ∷ changes ∷ start ∷ []) =
-    if pointwise nat_eq first (codes "make") then making (size_of (number_value services) (number_value changes) (number_value start)) else None
-command_of words = None
+command_of [] = None
+command_of (first ∷ behind) =
+    if pointwise nat_eq first (codes "step") then stepping (flags_of behind)
+    else (if pointwise nat_eq first (codes "make") then making (size_in behind)
+    else (if pointwise nat_eq first (codes "load") then loading (size_in behind)
+    else command_named first behind))
 
 -- the line that all other words are answered with
 abbrev pub usage_line : List ℕ

@@ -1,16 +1,16 @@
 // The command that words stand for.
-use crate::Size;
-use crate::accepting::{accepted, making};
-use crate::matching::{found, size_found};
+use crate::accepting::{accepted, loading, making};
+use crate::matching::{flags_found, found, size_found};
 use crate::taking::taken_by;
+use crate::{Size, TraceFlags};
 use std::alloc::Global;
 use svc_value::OutOfMemory;
 
 /// What the words of a call ask for.
 #[derive(Clone, Copy, Debug, PartialEq, Eq)]
 pub enum Command {
-    /// Settle a document leg by leg on one thread.
-    Step,
+    /// Settle a document leg by leg on one thread, with these trace lines.
+    Step(TraceFlags),
     /// Say whether a document is accepted, and what it counts.
     Check,
     /// Give the settled text of a document by the central evaluation.
@@ -19,6 +19,8 @@ pub enum Command {
     Frames,
     /// Make a document of this size.
     Make(Size),
+    /// Make a document of this size, settle it as `step` does, and give a summary of it.
+    Load(Size),
 }
 
 impl Command {
@@ -37,8 +39,10 @@ impl Command {
         };
         let found = found(taken_by(alloc, command)?, words)?;
         Ok(match command {
+            Command::Step(_) => Some(Command::Step(flags_found(&found))),
             Command::Make(_) => making(size_found(&found)),
-            Command::Step | Command::Check | Command::Central | Command::Frames => Some(command),
+            Command::Load(_) => loading(size_found(&found)),
+            Command::Check | Command::Central | Command::Frames => Some(command),
         })
     }
 }

@@ -7,9 +7,11 @@ mod matching;
 mod numbers;
 mod size;
 mod taking;
+mod trace_flags;
 
 pub use command::{Command, USAGE};
 pub use size::Size;
+pub use trace_flags::TraceFlags;
 
 #[cfg(test)]
 mod tests;

@@ -1,13 +1,14 @@
 // What `clap` finds in words that a command takes.
-ghost use Rattle.std.specs.Prelude.{◌≡◌, map, true, codes, IfOk};
+ghost use Rattle.std.specs.Prelude.{◌≡◌, Bool, Some, map, true, codes, IfOk};
 ghost use Rattle.std.specs.String.{string_bytes};
-ghost use Rattle.clap.specs.Words.{HasMatchesOf, app_of, first_value, found_of, takes};
+ghost use Rattle.clap.specs.Words.{HasMatchesOf, app_of, first_value, found_of, one_text, takes};
 ghost use Rattle.command_words.specs.Words.{size_of};
-ghost use Rattle.command_words.specs.Taken.{number_in};
+ghost use Rattle.command_words.specs.Taken.{flag_text, number_in};
+ghost use Rattle.command_words.specs.declared.trace_flags.TraceFlags.{TraceFlags};
 
-use crate::Size;
 use crate::numbers::number_of;
 use crate::size::size_of;
+use crate::{Size, TraceFlags};
 use clap::ArgMatches;
 use clap::error::ErrorKind;
 use svc_value::OutOfMemory;
@@ -27,7 +28,18 @@ pub(crate) fn found<'a>(
     }
 }
 
-/// The size that the texts found for `make` are, if they are one.
+/// The flags that are found for `step`.
+pub(crate) fn flags_found(found: &ArgMatches<'_>) -> TraceFlags
+    ensures { (flags : TraceFlags) → one_text (found_of found.now) (codes "trace") ≡ Some (flag_text flags.trace)
+        → one_text (found_of found.now) (codes "sources") ≡ Some (flag_text flags.sources) → result ≡ flags }
+{
+    TraceFlags {
+        trace: flag_found(found, "trace"),
+        sources: flag_found(found, "sources"),
+    }
+}
+
+/// The size that the texts found for `make` or `load` are, if they are one.
 pub(crate) fn size_found(found: &ArgMatches<'_>) -> Option<Size>
     ensures { result ≡ size_of (number_in (first_value (found_of found.now) (codes "services")))
         (number_in (first_value (found_of found.now) (codes "changes"))) (number_in (first_value (found_of found.now) (codes "start"))) }
@@ -35,6 +47,13 @@ pub(crate) fn size_found(found: &ArgMatches<'_>) -> Option<Size>
     let services = number_found(found, "services");
     let changes = number_found(found, "changes");
     size_of(services, changes, number_found(found, "start"))
+}
+
+// Whether the flag of this name is found.
+fn flag_found(found: &ArgMatches<'_>, name: &str) -> bool
+    ensures { (is_there : Bool) → one_text (found_of found.now) name.now ≡ Some (flag_text is_there) → result ≡ is_there }
+{
+    found.get_flag(name)
 }
 
 // The number that the text found under this name is.

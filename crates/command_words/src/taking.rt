@@ -1,7 +1,19 @@
-// The commands as `clap` takes them: one for each first word, with its arguments. A flag of a command is added at its function.
+// The commands as `clap` takes them: one for each first word, with its arguments.
 ghost use Rattle.std.specs.Prelude.{◌≡◌, IfOk, false};
 ghost use Rattle.clap.specs.Words.{app_of, rule_of};
-ghost use Rattle.command_words.specs.Taken.{bare, place, taken_by, step_taken, check_taken, central_taken, frames_taken, make_taken};
+ghost use Rattle.command_words.specs.Taken.{
+  bare,
+  flag,
+  place,
+  sized,
+  taken_by,
+  step_taken,
+  check_taken,
+  central_taken,
+  frames_taken,
+  make_taken,
+  load_taken,
+};
 
 use crate::Command;
 use clap::{Arg, ArgAction};
@@ -16,19 +28,24 @@ pub(crate) fn taken_by<'a>(
     ensures { IfOk result (λ taken. app_of taken ≡ taken_by command) }
 {
     match command {
-        Command::Step => Ok(step_taken(alloc)),
+        Command::Step(_) => step_taken(alloc),
         Command::Check => Ok(check_taken(alloc)),
         Command::Central => Ok(central_taken(alloc)),
         Command::Frames => Ok(frames_taken(alloc)),
         Command::Make(_) => make_taken(alloc),
+        Command::Load(_) => load_taken(alloc),
     }
 }
 
-// `step`.
-fn step_taken<'a>(alloc: Global) -> clap::Command<'a>
-    ensures { app_of result ≡ step_taken }
+// `step` with its two flags.
+fn step_taken<'a>(alloc: Global) -> Result<clap::Command<'a>, OutOfMemory>
+    ensures { IfOk result (λ command. app_of command ≡ step_taken) }
 {
-    bare(alloc, "step")
+    Ok(
+        bare(alloc, "step")
+            .arg(flag(alloc, "trace"))?
+            .arg(flag(alloc, "sources"))?,
+    )
 }
 
 // `check`.
@@ -52,12 +69,26 @@ fn frames_taken<'a>(alloc: Global) -> clap::Command<'a>
     bare(alloc, "frames")
 }
 
-// `make` with its three numbers, as plain texts.
+// `make` with its three numbers.
 fn make_taken<'a>(alloc: Global) -> Result<clap::Command<'a>, OutOfMemory>
     ensures { IfOk result (λ command. app_of command ≡ make_taken) }
 {
+    sized(alloc, "make")
+}
+
+// `load` with its three numbers.
+fn load_taken<'a>(alloc: Global) -> Result<clap::Command<'a>, OutOfMemory>
+    ensures { IfOk result (λ command. app_of command ≡ load_taken) }
+{
+    sized(alloc, "load")
+}
+
+// A command with the three numbers of a size, as plain texts.
+fn sized<'a>(alloc: Global, name: &'a str) -> Result<clap::Command<'a>, OutOfMemory>
+    ensures { IfOk result (λ command. app_of command ≡ sized name.entry.now) }
+{
     Ok(
-        bare(alloc, "make")
+        bare(alloc, name)
             .arg(place(alloc, "services"))?
             .arg(place(alloc, "changes"))?
             .arg(place(alloc, "start"))?,
@@ -77,4 +108,12 @@ fn place<'a>(alloc: Global, name: &'a str) -> Arg<'a>
     ensures local { result.global ≡ false }
 {
     Arg::new(alloc, name).required(true).action(ArgAction::Set)
+}
+
+// A flag that may stand anywhere behind the command, `--` and its name.
+fn flag<'a>(alloc: Global, name: &'a str) -> Arg<'a>
+    ensures rule { rule_of result ≡ flag name.entry.now }
+    ensures local { result.global ≡ false }
+{
+    Arg::new(alloc, name).long(name).action(ArgAction::SetTrue)
 }

@@ -1,5 +1,5 @@
 // Tables of words, and what they stand for.
-use crate::{Command, Size};
+use crate::{Command, Size, TraceFlags};
 use std::alloc::Global;
 use std::test::Fail;
 
@@ -15,26 +15,43 @@ fn read(alloc: Global, words: &[&str]) -> Result<Option<Command>, Fail> {
     }
 }
 
-// The command `make` with these numbers.
-fn made(services: u16, changes: u16, start: u32) -> Command {
-    Command::Make(Size {
+// The size with these numbers.
+fn size(services: u16, changes: u16, start: u32) -> Size {
+    Size {
         services,
         changes,
         start,
-    })
+    }
+}
+
+// The command `step` with these flags.
+fn step(trace: bool, sources: bool) -> Command {
+    Command::Step(TraceFlags { trace, sources })
 }
 
 #[test]
 fn words_stand_for_commands(rt: HostRuntime) -> Result<(), Fail> {
-    let rows: [(&[&str], Command); 8] = [
-        (&["step"], Command::Step),
+    let rows: [(&[&str], Command); 14] = [
+        (&["step"], step(false, false)),
+        (&["step", "--trace"], step(true, false)),
+        (&["step", "--sources"], step(false, true)),
+        (&["step", "--trace", "--sources"], step(true, true)),
+        (&["step", "--sources", "--trace"], step(true, true)),
         (&["check"], Command::Check),
         (&["central"], Command::Central),
         (&["frames"], Command::Frames),
-        (&["make", "3", "5", "1"], made(3, 5, 1)),
-        (&["make", "2", "2", "0"], made(2, 2, 0)),
-        (&["make", "64", "64", "1"], made(64, 64, 1)),
-        (&["make", "64", "1024", "65536"], made(64, 1024, 65536)),
+        (&["make", "3", "5", "1"], Command::Make(size(3, 5, 1))),
+        (&["make", "2", "2", "0"], Command::Make(size(2, 2, 0))),
+        (&["make", "64", "64", "1"], Command::Make(size(64, 64, 1))),
+        (
+            &["make", "64", "1024", "65536"],
+            Command::Make(size(64, 1024, 65536)),
+        ),
+        (&["load", "3", "5", "1"], Command::Load(size(3, 5, 1))),
+        (
+            &["load", "64", "1024", "65536"],
+            Command::Load(size(64, 1024, 65536)),
+        ),
     ];
     for (words, command) in rows {
         assert!(rt; read(rt.alloc(), words)? == Some(command));
@@ -44,15 +61,37 @@ fn words_stand_for_commands(rt: HostRuntime) -> Result<(), Fail> {
 
 #[test]
 fn other_words_are_not_accepted(rt: HostRuntime) -> Result<(), Fail> {
-    let rows: [&[&str]; 17] = [
+    let rows: [&[&str]; 39] = [
         &[],
         &[""],
         &["run"],
         &["run", "--fast"],
         &["run", "--trace", "--trace"],
-        &["step", "--trace"],
+        &["step", "--trace", "--trace"],
+        &["step", "--sources", "--sources"],
+        &["step", "--sources", "--trace", "--sources"],
+        &["step", "--trace", "--sources", "--trace"],
+        &["step", "--sources", "--trace", "--sources", "--trace"],
+        &["step", "--trace", "x"],
+        &["step", "x", "--trace"],
+        &["step", "--trace", "--", "--sources"],
+        &["step", "--trace", "--"],
+        &["step", "--", "--trace"],
+        &["step", "--"],
+        &["step", "--trace=1"],
+        &["step", "--trace="],
+        &["step", "--tr"],
+        &["step", "--Trace"],
+        &["step", "-trace"],
+        &["step", "trace"],
+        &["step", "-t"],
+        &["step", "--keep"],
+        &["step", "--trace", "--keep"],
+        &["step", ""],
         &["step", "--help"],
         &["step", "step"],
+        &["--trace", "step"],
+        &["check", "--trace"],
         &["check", "check"],
         &["check", "--"],
         &["check", ""],
@@ -71,7 +110,7 @@ fn other_words_are_not_accepted(rt: HostRuntime) -> Result<(), Fail> {
 
 #[test]
 fn other_sizes_are_not_accepted(rt: HostRuntime) -> Result<(), Fail> {
-    let rows: [&[&str]; 18] = [
+    let rows: [&[&str]; 28] = [
         &["make"],
         &["make", "3", "5"],
         &["make", "3", "5", "1", "1"],
@@ -90,6 +129,16 @@ fn other_sizes_are_not_accepted(rt: HostRuntime) -> Result<(), Fail> {
         &["make", "3", "5", ""],
         &["make", "3", "5", " 1"],
         &["make", "3", "5", "99999999999999999999"],
+        &["make", "3", "5", "1", "--trace"],
+        &["load"],
+        &["load", "3", "5"],
+        &["load", "3", "5", "1", "1"],
+        &["load", "3", "5", "1", "--trace"],
+        &["load", "--trace", "3", "5", "1"],
+        &["load", "--", "3", "5", "1"],
+        &["load", "1", "5", "1"],
+        &["load", "3", "05", "1"],
+        &["load", "64", "1024", "65537"],
     ];
     for words in rows {
         assert!(rt; read(rt.alloc(), words)?.is_none());

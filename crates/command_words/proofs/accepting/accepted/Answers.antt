@@ -1,14 +1,10 @@
-use Rattle.std.proofs.Common.{map, arith}
-use Rattle.std.proofs.lemmas.List.{length-map}
+use Rattle.std.proofs.Common.{◌∙◌}
 use Rattle.std.specs.String.{string_bytes}
-use Rattle.command_words.proofs.Sizes.{some_words, many_words}
+use Rattle.command_words.proofs.ByCommand.{other_names}
 use Rattle.command_words.proofs.accepting.accepted.Goals as goal
 
-pub returns-in_default-2 : goal.returns-in_default-2
-returns-in_default-2 c =
-    some_words (map string_bytes c.args.words.now)
-    (omega (arith, length-map c.args.words.now string_bytes, c.in_default.len_at_least)) (omega (arith, length-map c.args.words.now string_bytes, c.in_default.len_below))
-
-pub returns-in_default-4 : goal.returns-in_default-4
-returns-in_default-4 c =
-    many_words (map string_bytes c.args.words.now) (omega (arith, length-map c.args.words.now string_bytes, c.in_default.len_at_least))
+pub returns-in_default-as_str : goal.returns-in_default-as_str
+returns-in_default-as_str c =
+    c.named.ensures
+    ∙ other_names string_bytes c.args.words.now c.first-item.result c.as_str.result.now c.in-len1-up.len_at_least c.first-item.is c.as_str.ensures.value
+    c.in_default-as_str.not-step c.in_default-as_str.not-make c.in_default-as_str.not-load

@@ -1,11 +1,14 @@
 use Rattle.std.proofs.Common.{◌≡◌, ◌∙◌, ap, map, subst, sym, Some, true}
 use Rattle.std.specs.String.{string_bytes}
 use Rattle.clap.specs.Words.{App, HasMatchesOf, takes}
+use Rattle.command_words.specs.declared.command.Command.{Command}
+use Rattle.command_words.specs.declared.command.Command.TheVariants.{Step}
+use Rattle.command_words.specs.declared.trace_flags.TraceFlags.{TraceFlags}
 use Rattle.command_words.specs.Taken.{taken_by}
-use Rattle.command_words.specs.Words.{making}
-use Rattle.command_words.proofs.Accepted.{accepted_takes, accepted_size}
+use Rattle.command_words.specs.Words.{loading, making}
+use Rattle.command_words.proofs.Accepted.{accepted_flags, accepted_load, accepted_make, accepted_takes}
 use Rattle.command_words.proofs.command.Command.from_words.Goals as goal
-use Rattle.command_words.proofs.command.Command.from_words.Goals.{in-Make, in-Step}
+use Rattle.command_words.proofs.command.Command.from_words.Goals.{in-Step, in-Make, in-Load, in-Check}
 
 pub found-requires : goal.found-requires
 found-requires c =
@@ -13,12 +16,25 @@ found-requires c =
     (accepted_takes (map string_bytes c.args.words.now) c.in-Some.command (sym c.accepted.ensures ∙ c.in-Some.is))
 
 pub returns-clause-command : goal.returns-clause-command
-returns-clause-command c = elim c.match-command.branch [
-  | in-Make w ↦
-      let found = subst (λ (a : App). HasMatchesOf a (map string_bytes c.args.words.now) c.in_ok-found.found)
-      (c.in_ok-taken_by.ensures ∙ ap taken_by w.in-Make.is) c.in_ok-found.ensures in
-      w.result-is ∙ w.making.ensures ∙ ap making w.size_found.ensures
-      ∙ accepted_size (map string_bytes c.args.words.now) w.in-Make.field-0 c.in_ok-found.found
-      (sym c.accepted.ensures ∙ c.in-Some.is ∙ ap Some w.in-Make.is) found
-  | in-Step w ↦ w.result-is ∙ sym c.in-Some.is ∙ c.accepted.ensures
-]
+returns-clause-command c =
+    let words = map string_bytes c.args.words.now in
+    let given = sym c.accepted.ensures ∙ c.in-Some.is in
+    let found = subst (λ (a : App). HasMatchesOf a words c.in_ok-found.found) c.in_ok-taken_by.ensures c.in_ok-found.ensures in
+    elim c.match-command.branch [
+      | in-Step w ↦
+          let flags = accepted_flags words w.in-Step.field-0 c.in_ok-found.found (given ∙ ap Some w.in-Step.is)
+          (subst (λ (command : Command). HasMatchesOf (taken_by command) words c.in_ok-found.found) w.in-Step.is found) in
+          w.result-is ∙ ap (λ (flags : TraceFlags). Some (Step flags)) (w.flags_found.ensures w.in-Step.field-0 flags.0 flags.1)
+          ∙ sym (given ∙ ap Some w.in-Step.is)
+      | in-Make w ↦
+          w.result-is ∙ w.making.ensures
+          ∙ ap making (w.size_found.ensures ∙ accepted_make words w.in-Make.field-0 c.in_ok-found.found (given ∙ ap Some w.in-Make.is)
+          (subst (λ (command : Command). HasMatchesOf (taken_by command) words c.in_ok-found.found) w.in-Make.is found))
+          ∙ sym (given ∙ ap Some w.in-Make.is)
+      | in-Load w ↦
+          w.result-is ∙ w.loading.ensures
+          ∙ ap loading (w.size_found-in-Load.ensures ∙ accepted_load words w.in-Load.field-0 c.in_ok-found.found (given ∙ ap Some w.in-Load.is)
+          (subst (λ (command : Command). HasMatchesOf (taken_by command) words c.in_ok-found.found) w.in-Load.is found))
+          ∙ sym (given ∙ ap Some w.in-Load.is)
+      | in-Check w ↦ w.result-is ∙ sym c.in-Some.is ∙ c.accepted.ensures
+    ]
