@@ -10,7 +10,7 @@ use Rattle.command_words.specs.declared.command.Command.{Command}
 use Rattle.command_words.specs.declared.command.Command.TheVariants.{Step, Check, Central, Frames, Make, Load}
 use Rattle.command_words.specs.declared.size.Size.{Size}
 use Rattle.command_words.specs.declared.trace_flags.TraceFlags.{TraceFlags}
-use Rattle.command_words.specs.Taken.{flag_text, load_taken, make_taken, number_in, sized, step_taken, taken_by}
+use Rattle.command_words.specs.Taken.{flag_text, load_taken, make_taken, number_in, with_size, step_taken, taken_by}
 use Rattle.command_words.specs.Words.{command_of, number_behind, number_value, size_in, size_of}
 use Rattle.command_words.proofs.ByCommand.{by_command}
 use Rattle.command_words.proofs.PlainWords.{IsPlain, digit_is_plain, no_hyphen, numbers_take, services_found, changes_found, start_found}
@@ -48,7 +48,7 @@ numbers (Some s) (Some c) None size e = absurd (cc e)
 numbers (Some s) (Some c) (Some n) size e = record { services = refl; changes = refl; start = refl }
 
 module _ (name first : Text) where
-  size_takes : (behind : List Text) (size : Size) → size_in behind ≡ Some size → takes (sized name) (first ∷ behind) ≡ true
+  size_takes : (behind : List Text) (size : Size) → size_in behind ≡ Some size → takes (with_size name) (first ∷ behind) ≡ true
   size_takes [] size e = absurd (cc e)
   size_takes (a ∷ []) size e = absurd (cc e)
   size_takes (a ∷ b ∷ []) size e = absurd (cc e)
@@ -58,7 +58,7 @@ module _ (name first : Text) where
   size_takes (a ∷ b ∷ c ∷ d ∷ rest) size e = absurd (cc e)
 
   -- the size that clap finds is the one that the words are
-  pub size_found : (behind : List Text) (size : Size) (m : ArgMatches) → size_in behind ≡ Some size → HasMatchesOf (sized name) (first ∷ behind) m
+  pub size_found : (behind : List Text) (size : Size) (m : ArgMatches) → size_in behind ≡ Some size → HasMatchesOf (with_size name) (first ∷ behind) m
       → size_of (number_in (first_value (found_of m) (codes "services"))) (number_in (first_value (found_of m) (codes "changes"))) (number_in (first_value (found_of m) (codes "start"))) ≡ Some size
   size_found [] size m e found = absurd (cc e)
   size_found (a ∷ []) size m e found = absurd (cc e)
@@ -68,7 +68,7 @@ module _ (name first : Text) where
       let pa = plain_number a h.services in
       let pb = plain_number b h.changes in
       let pc = plain_number c h.start in
-      let value : (id t : Text) → first_of id (matches_of (sized name) (first ∷ a ∷ b ∷ c ∷ [])) ≡ Some t → first_value (found_of m) id ≡ Some t
+      let value : (id t : Text) → first_of id (matches_of (with_size name) (first ∷ a ∷ b ∷ c ∷ [])) ≡ Some t → first_value (found_of m) id ≡ Some t
       = λ id t is. first_value-rows (found_of m) id ∙ ap (first_of id) (found refl).0 ∙ is in
       rw (value (codes "services") a (services_found name a b c pa pb pc first), value (codes "changes") b (changes_found name a b c pa pb pc first), value (codes "start") c (start_found name a b c pa pb pc first)) e
   size_found (a ∷ b ∷ c ∷ d ∷ rest) size m e found = absurd (cc e)

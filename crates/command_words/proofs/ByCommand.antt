@@ -9,8 +9,8 @@ use Rattle.command_words.specs.declared.size.Size.{Size}
 use Rattle.command_words.specs.declared.trace_flags.TraceFlags.{TraceFlags}
 use Rattle.command_words.specs.Words.{command_named, command_of, flags_of, loading, making, size_in, stepping}
 
-other : (word text : List ℕ) → (word ≡ text → ⊥) → pointwise nat_eq word text ≡ false
-other word text differs = go (pointwise nat_eq word text) (λ e. same_text word text (sym e))
+other_word : (word text : List ℕ) → (word ≡ text → ⊥) → pointwise nat_eq word text ≡ false
+other_word word text differs = go (pointwise nat_eq word text) (λ e. same_text word text (sym e))
   where
     go : (b : Bool) → (b ≡ true → word ≡ text) → b ≡ false
     go true same = absurd (differs (same refl))
@@ -25,48 +25,48 @@ other_names bytes [] first name some at is step make load = absurd (omega (arith
 other_names {W} bytes (word ∷ words) first name some at is step make load =
     let behind : take (length (word ∷ words) - 1) words ≡ words = take_rest (word ∷ words) 1 in
     ap (λ (rest : List W). command_named name (map bytes rest)) behind
-    ∙ sym in_all
+    ∙ sym by_name
     ∙ ap (λ (name : List ℕ). command_of (name ∷ map bytes words)) (is ∙ ap bytes at)
   where
-    in_all : command_of (name ∷ map bytes words) ≡ command_named name (map bytes words)
-    in_all = rw (other name (codes "step") step, other name (codes "make") make, other name (codes "load") load) refl
+    by_name : command_of (name ∷ map bytes words) ≡ command_named name (map bytes words)
+    by_name = rw (other_word name (codes "step") step, other_word name (codes "make") make, other_word name (codes "load") load) refl
 
 module _ (P : Command → Type 0) (first : List ℕ) (behind : List (List ℕ))
     (on_step : (flags : TraceFlags) → flags_of behind ≡ Some flags → P (Step flags))
     (on_make : (size : Size) → size_in behind ≡ Some size → P (Make size))
     (on_load : (size : Size) → size_in behind ≡ Some size → P (Load size))
     (on_check : behind ≡ [] → P Check) (on_central : behind ≡ [] → P Central) (on_frames : behind ≡ [] → P Frames) where
-  stepped : (o : Option TraceFlags) → flags_of behind ≡ o → (command : Command) → stepping o ≡ Some command → P command
-  stepped None h command e = absurd (cc e)
-  stepped (Some flags) h command e = subst P (let same : Step flags ≡ command = cc e in same) (on_step flags h)
+  step_case : (o : Option TraceFlags) → flags_of behind ≡ o → (command : Command) → stepping o ≡ Some command → P command
+  step_case None h command e = absurd (cc e)
+  step_case (Some flags) h command e = subst P (let same : Step flags ≡ command = cc e in same) (on_step flags h)
 
-  made : (o : Option Size) → size_in behind ≡ o → (command : Command) → making o ≡ Some command → P command
-  made None h command e = absurd (cc e)
-  made (Some size) h command e = subst P (let same : Make size ≡ command = cc e in same) (on_make size h)
+  make_case : (o : Option Size) → size_in behind ≡ o → (command : Command) → making o ≡ Some command → P command
+  make_case None h command e = absurd (cc e)
+  make_case (Some size) h command e = subst P (let same : Make size ≡ command = cc e in same) (on_make size h)
 
-  loaded : (o : Option Size) → size_in behind ≡ o → (command : Command) → loading o ≡ Some command → P command
-  loaded None h command e = absurd (cc e)
-  loaded (Some size) h command e = subst P (let same : Load size ≡ command = cc e in same) (on_load size h)
+  load_case : (o : Option Size) → size_in behind ≡ o → (command : Command) → loading o ≡ Some command → P command
+  load_case None h command e = absurd (cc e)
+  load_case (Some size) h command e = subst P (let same : Load size ≡ command = cc e in same) (on_load size h)
 
-  named : (b1 b2 b3 : Bool) → behind ≡ [] → (command : Command)
+  name_case : (b1 b2 b3 : Bool) → behind ≡ [] → (command : Command)
       → (if b1 then Some Check else (if b2 then Some Central else (if b3 then Some Frames else None))) ≡ Some command → P command
-  named true b2 b3 h command e = subst P (let same : Check ≡ command = cc e in same) (on_check h)
-  named false true b3 h command e = subst P (let same : Central ≡ command = cc e in same) (on_central h)
-  named false false true h command e = subst P (let same : Frames ≡ command = cc e in same) (on_frames h)
-  named false false false h command e = absurd (cc e)
+  name_case true b2 b3 h command e = subst P (let same : Check ≡ command = cc e in same) (on_check h)
+  name_case false true b3 h command e = subst P (let same : Central ≡ command = cc e in same) (on_central h)
+  name_case false false true h command e = subst P (let same : Frames ≡ command = cc e in same) (on_frames h)
+  name_case false false false h command e = absurd (cc e)
 
-  alone : (words : List (List ℕ)) → behind ≡ words → (command : Command) → command_named first words ≡ Some command → P command
-  alone [] h command e = named (pointwise nat_eq first (codes "check")) (pointwise nat_eq first (codes "central")) (pointwise nat_eq first (codes "frames")) h command e
-  alone (word ∷ words) h command e = absurd (cc e)
+  alone_case : (words : List (List ℕ)) → behind ≡ words → (command : Command) → command_named first words ≡ Some command → P command
+  alone_case [] h command e = name_case (pointwise nat_eq first (codes "check")) (pointwise nat_eq first (codes "central")) (pointwise nat_eq first (codes "frames")) h command e
+  alone_case (word ∷ words) h command e = absurd (cc e)
 
-  chosen : (b1 b2 b3 : Bool) (command : Command)
+  any_case : (b1 b2 b3 : Bool) (command : Command)
       → (if b1 then stepping (flags_of behind) else (if b2 then making (size_in behind) else (if b3 then loading (size_in behind) else command_named first behind))) ≡ Some command
       → P command
-  chosen true b2 b3 command e = stepped (flags_of behind) refl command e
-  chosen false true b3 command e = made (size_in behind) refl command e
-  chosen false false true command e = loaded (size_in behind) refl command e
-  chosen false false false command e = alone behind refl command e
+  any_case true b2 b3 command e = step_case (flags_of behind) refl command e
+  any_case false true b3 command e = make_case (size_in behind) refl command e
+  any_case false false true command e = load_case (size_in behind) refl command e
+  any_case false false false command e = alone_case behind refl command e
 
   -- what holds of each command that a name and the words behind it stand for
   pub by_command : (command : Command) → command_of (first ∷ behind) ≡ Some command → P command
-  by_command command e = chosen (pointwise nat_eq first (codes "step")) (pointwise nat_eq first (codes "make")) (pointwise nat_eq first (codes "load")) command e
+  by_command command e = any_case (pointwise nat_eq first (codes "step")) (pointwise nat_eq first (codes "make")) (pointwise nat_eq first (codes "load")) command e

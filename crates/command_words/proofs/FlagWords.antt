@@ -17,8 +17,8 @@ trace = codes "--trace"
 abbrev pub sources : Text
 sources = codes "--sources"
 
-abbrev pub asked : Bool → Bool → TraceFlags
-asked traces sources = record { trace = traces; sources = sources }
+abbrev pub flags_with : Bool → Bool → TraceFlags
+flags_with traces sources = record { trace = traces; sources = sources }
 
 is_one : (word : Text) → is_flag word ≡ true → (word ≡ trace) ⊎ (word ≡ sources)
 is_one word h = go (pointwise nat_eq word trace) (λ e. same_text word trace (sym e)) h
@@ -41,8 +41,8 @@ no_less : (flag : Text) (before : ℕ) (words : List Text) → before ≤ in_all
 no_less flag before [] = omega arith
 no_less flag before (word ∷ words) = omega (arith, no_less flag (before + once (pointwise nat_eq word flag)) words)
 
-counted : (word : Text) → is_flag word ≡ true → 1 ≤ once (pointwise nat_eq word trace) + once (pointwise nat_eq word sources)
-counted word h = go (pointwise nat_eq word trace) (pointwise nat_eq word sources) h
+one_at_least : (word : Text) → is_flag word ≡ true → 1 ≤ once (pointwise nat_eq word trace) + once (pointwise nat_eq word sources)
+one_at_least word h = go (pointwise nat_eq word trace) (pointwise nat_eq word sources) h
   where
     go : (t s : Bool) → (t || s) ≡ true → 1 ≤ once t + once s
     go true s h = omega arith
@@ -51,7 +51,7 @@ counted word h = go (pointwise nat_eq word trace) (pointwise nat_eq word sources
 
 -- ---- the words that are accepted
 
-record AreOnce (words : List Text) : Type 0 where
+record AreAtMostOnce (words : List Text) : Type 0 where
   flags : list_all is_flag words ≡ true
   traces : in_all trace 0 words ≤ 1
   sources : in_all sources 0 words ≤ 1
@@ -60,8 +60,8 @@ guard_holds : (b : Bool) (x flags : TraceFlags) → (if b then Some x else None)
 guard_holds true x flags e = refl
 guard_holds false x flags e = absurd (cc e)
 
-are_once : (words : List Text) (flags : TraceFlags) → flags_of words ≡ Some flags → AreOnce words
-are_once words flags e =
+at_most_once : (words : List Text) (flags : TraceFlags) → flags_of words ≡ Some flags → AreAtMostOnce words
+at_most_once words flags e =
     let h = guard_holds _ _ flags e in
     let tests = (and_parts (list_all is_flag words) _ h).1 in
     record {
@@ -71,27 +71,27 @@ are_once words flags e =
     }
 
 -- no three of them
-no_three : (a b c : Text) (rest : List Text) → AreOnce (a ∷ b ∷ c ∷ rest) → ⊥
+no_three : (a b c : Text) (rest : List Text) → AreAtMostOnce (a ∷ b ∷ c ∷ rest) → ⊥
 no_three a b c rest h =
     let h1 = and_parts (is_flag a) _ h.flags in
     let h2 = and_parts (is_flag b) _ h1.1 in
     let h3 = and_parts (is_flag c) _ h2.1 in
     let least : (flag : Text) → 0 + once (pointwise nat_eq a flag) + once (pointwise nat_eq b flag) + once (pointwise nat_eq c flag) ≤ in_all flag 0 (a ∷ b ∷ c ∷ rest)
     = λ flag. no_less flag (0 + once (pointwise nat_eq a flag) + once (pointwise nat_eq b flag) + once (pointwise nat_eq c flag)) rest in
-    omega (arith, least trace, least sources, h.traces, h.sources, counted a h1.0, counted b h2.0, counted c h3.0)
+    omega (arith, least trace, least sources, h.traces, h.sources, one_at_least a h1.0, one_at_least b h2.0, one_at_least c h3.0)
 
 module _ (P : List Text → TraceFlags → Type 0)
-    (on_none : P [] (asked false false))
-    (on_trace : P (trace ∷ []) (asked true false))
-    (on_sources : P (sources ∷ []) (asked false true))
-    (on_both : P (trace ∷ sources ∷ []) (asked true true))
-    (on_both_turned : P (sources ∷ trace ∷ []) (asked true true)) where
+    (on_none : P [] (flags_with false false))
+    (on_trace : P (trace ∷ []) (flags_with true false))
+    (on_sources : P (sources ∷ []) (flags_with false true))
+    (on_both : P (trace ∷ sources ∷ []) (flags_with true true))
+    (on_both_turned : P (sources ∷ trace ∷ []) (flags_with true true)) where
   one : (word : Text) → (word ≡ trace) ⊎ (word ≡ sources) → (flags : TraceFlags) → flags_of (word ∷ []) ≡ Some flags → P (word ∷ []) flags
   one word is flags = elim is [
     | inl is ↦ subst (λ (w : Text). flags_of (w ∷ []) ≡ Some flags → P (w ∷ []) flags) (sym is)
-        (λ e. subst (P (trace ∷ [])) (let same : asked true false ≡ flags = cc e in same) on_trace)
+        (λ e. subst (P (trace ∷ [])) (let same : flags_with true false ≡ flags = cc e in same) on_trace)
     | inr is ↦ subst (λ (w : Text). flags_of (w ∷ []) ≡ Some flags → P (w ∷ []) flags) (sym is)
-        (λ e. subst (P (sources ∷ [])) (let same : asked false true ≡ flags = cc e in same) on_sources)
+        (λ e. subst (P (sources ∷ [])) (let same : flags_with false true ≡ flags = cc e in same) on_sources)
   ]
 
   behind_trace : (word : Text) → (word ≡ trace) ⊎ (word ≡ sources) → (flags : TraceFlags) → flags_of (trace ∷ word ∷ []) ≡ Some flags → P (trace ∷ word ∷ []) flags
@@ -99,13 +99,13 @@ module _ (P : List Text → TraceFlags → Type 0)
     | inl is ↦ subst (λ (w : Text). flags_of (trace ∷ w ∷ []) ≡ Some flags → P (trace ∷ w ∷ []) flags) (sym is)
         (λ e. absurd (cc e))
     | inr is ↦ subst (λ (w : Text). flags_of (trace ∷ w ∷ []) ≡ Some flags → P (trace ∷ w ∷ []) flags) (sym is)
-        (λ e. subst (P (trace ∷ sources ∷ [])) (let same : asked true true ≡ flags = cc e in same) on_both)
+        (λ e. subst (P (trace ∷ sources ∷ [])) (let same : flags_with true true ≡ flags = cc e in same) on_both)
   ]
 
   behind_sources : (word : Text) → (word ≡ trace) ⊎ (word ≡ sources) → (flags : TraceFlags) → flags_of (sources ∷ word ∷ []) ≡ Some flags → P (sources ∷ word ∷ []) flags
   behind_sources word is flags = elim is [
     | inl is ↦ subst (λ (w : Text). flags_of (sources ∷ w ∷ []) ≡ Some flags → P (sources ∷ w ∷ []) flags) (sym is)
-        (λ e. subst (P (sources ∷ trace ∷ [])) (let same : asked true true ≡ flags = cc e in same) on_both_turned)
+        (λ e. subst (P (sources ∷ trace ∷ [])) (let same : flags_with true true ≡ flags = cc e in same) on_both_turned)
     | inr is ↦ subst (λ (w : Text). flags_of (sources ∷ w ∷ []) ≡ Some flags → P (sources ∷ w ∷ []) flags) (sym is)
         (λ e. absurd (cc e))
   ]
@@ -118,14 +118,14 @@ module _ (P : List Text → TraceFlags → Type 0)
 
   -- the flags are there in one of five ways
   pub by_flags : (words : List Text) (flags : TraceFlags) → flags_of words ≡ Some flags → P words flags
-  by_flags [] flags e = subst (P []) (let same : asked false false ≡ flags = cc e in same) on_none
+  by_flags [] flags e = subst (P []) (let same : flags_with false false ≡ flags = cc e in same) on_none
   by_flags (a ∷ []) flags e =
-      let h = (are_once (a ∷ []) flags e).flags in
+      let h = (at_most_once (a ∷ []) flags e).flags in
       one a (is_one a (and_parts (is_flag a) _ h).0) flags e
   by_flags (a ∷ b ∷ []) flags e =
-      let h = and_parts (is_flag a) _ (are_once (a ∷ b ∷ []) flags e).flags in
+      let h = and_parts (is_flag a) _ (at_most_once (a ∷ b ∷ []) flags e).flags in
       two a b (is_one a h.0) (is_one b (and_parts (is_flag b) _ h.1).0) flags e
-  by_flags (a ∷ b ∷ c ∷ rest) flags e = absurd (no_three a b c rest (are_once (a ∷ b ∷ c ∷ rest) flags e))
+  by_flags (a ∷ b ∷ c ∷ rest) flags e = absurd (no_three a b c rest (at_most_once (a ∷ b ∷ c ∷ rest) flags e))
 
 -- ---- the flags of words that follow flags
 
@@ -136,15 +136,6 @@ flags_from before words =
     let sources = in_all sources (once before.sources) words in
     if list_all is_flag words && (nat_le traces 1 && nat_le sources 1)
     then Some (record { trace = nat_eq traces 1; sources = nat_eq sources 1 }) else None
-
-pub none_left : (before : TraceFlags) → flags_from before [] ≡ Some before
-none_left before = go before.trace before.sources
-  where
-    go : (t s : Bool) → flags_from (asked t s) [] ≡ Some (asked t s)
-    go true true = refl
-    go true false = refl
-    go false true = refl
-    go false false = refl
 
 none_behind : (x b y : Bool) (z : TraceFlags) → b ≡ false → (if x && (b && y) then Some z else None) ≡ None
 none_behind x true y z h = absurd (true≢false h)
@@ -158,8 +149,8 @@ none_behind_second true false false z h = refl
 none_behind_second false y false z h = refl
 
 -- twice is too often
-over : (flag : Text) (words : List Text) → nat_le (in_all flag 2 words) 1 ≡ false
-over flag words = go (nat_le (in_all flag 2 words) 1) (leb-true (in_all flag 2 words) 1)
+too_often : (flag : Text) (words : List Text) → nat_le (in_all flag 2 words) 1 ≡ false
+too_often flag words = go (nat_le (in_all flag 2 words) 1) (leb-true (in_all flag 2 words) 1)
   where
     go : (b : Bool) → (b ≡ true → in_all flag 2 words ≤ 1) → b ≡ false
     go true least = absurd (omega (arith, least refl, no_less flag 2 words))
@@ -172,20 +163,20 @@ OneMore flags word rest = flags_from flags (word ∷ rest) ≡ option_and_then (
 one_trace : (flags : TraceFlags) (rest : List Text) → OneMore flags trace rest
 one_trace flags rest = go flags.trace flags.sources
   where
-    go : (t s : Bool) → OneMore (asked t s) trace rest
+    go : (t s : Bool) → OneMore (flags_with t s) trace rest
     go false true = refl
     go false false = refl
-    go true true = none_behind (list_all is_flag rest) _ _ _ (over trace rest)
-    go true false = none_behind (list_all is_flag rest) _ _ _ (over trace rest)
+    go true true = none_behind (list_all is_flag rest) _ _ _ (too_often trace rest)
+    go true false = none_behind (list_all is_flag rest) _ _ _ (too_often trace rest)
 
 one_sources : (flags : TraceFlags) (rest : List Text) → OneMore flags sources rest
 one_sources flags rest = go flags.trace flags.sources
   where
-    go : (t s : Bool) → OneMore (asked t s) sources rest
+    go : (t s : Bool) → OneMore (flags_with t s) sources rest
     go true false = refl
     go false false = refl
-    go true true = none_behind_second (list_all is_flag rest) _ _ _ (over sources rest)
-    go false true = none_behind_second (list_all is_flag rest) _ _ _ (over sources rest)
+    go true true = none_behind_second (list_all is_flag rest) _ _ _ (too_often sources rest)
+    go false true = none_behind_second (list_all is_flag rest) _ _ _ (too_often sources rest)
 
 pub one_more : (flags : TraceFlags) (word : Text) (rest : List Text) → OneMore flags word rest
 one_more flags word rest = go (pointwise nat_eq word trace) (pointwise nat_eq word sources) refl refl

@@ -10,7 +10,7 @@ use Rattle.clap.specs.Takes.{default_passes, entered_passes, is_valid, settle_pa
 use Rattle.clap.specs.Walk.{Held, Step, Text, Walk, after_step, arg_by_index, finished, first_of, idle, nothing_held, to_positional, value, walk, walk_from, walked, word_met}
 use Rattle.clap.specs.Words.{matches_of, takes}
 use Rattle.clap.proofs.OnLiterals.{clap_on_literals}
-use Rattle.command_words.specs.Taken.{sized}
+use Rattle.command_words.specs.Taken.{with_size}
 
 -- ---- words that are no flags
 
@@ -29,7 +29,7 @@ no_hyphen digit h = grind (arith, h)
 
 module _ (name : Text) where
   abbrev shape : Shape
-  shape = (built (sized name)).top
+  shape = (built (with_size name)).top
 
   -- a walk that waits for the argument at this place
   abbrev at : ℕ → Held → Walk
@@ -75,18 +75,18 @@ module _ (name : Text) where
 
     -- that the command takes the words, by where the walk ends and whether each word passed
     abbrev level : Walk → Bool → Bool
-    level w passes = entered_passes (built (sized name)) w.stopped && (passes && (settle_passes shape.rules shape.args_override_self w.held
-        && (list_all default_passes shape.rules && is_valid shape (finished shape.rules w.held) (is_some (entered (built (sized name)) w.stopped)))))
+    level w passes = entered_passes (built (with_size name)) w.stopped && (passes && (settle_passes shape.rules shape.args_override_self w.held
+        && (list_all default_passes shape.rules && is_valid shape (finished shape.rules w.held) (is_some (entered (built (with_size name)) w.stopped)))))
 
-    pub numbers_take : (first : Text) → takes (sized name) (first ∷ a ∷ b ∷ c ∷ []) ≡ true
+    pub numbers_take : (first : Text) → takes (with_size name) (first ∷ a ∷ b ∷ c ∷ []) ≡ true
     numbers_take first = ap₂ level at_end passed
 
     -- and each is found under its name
-    pub services_found : (first : Text) → first_of (codes "services") (matches_of (sized name) (first ∷ a ∷ b ∷ c ∷ [])) ≡ Some a
+    pub services_found : (first : Text) → first_of (codes "services") (matches_of (with_size name) (first ∷ a ∷ b ∷ c ∷ [])) ≡ Some a
     services_found first = ap (λ (w : Walk). first_of (codes "services") (finished shape.rules w.held)) at_end
 
-    pub changes_found : (first : Text) → first_of (codes "changes") (matches_of (sized name) (first ∷ a ∷ b ∷ c ∷ [])) ≡ Some b
+    pub changes_found : (first : Text) → first_of (codes "changes") (matches_of (with_size name) (first ∷ a ∷ b ∷ c ∷ [])) ≡ Some b
     changes_found first = ap (λ (w : Walk). first_of (codes "changes") (finished shape.rules w.held)) at_end
 
-    pub start_found : (first : Text) → first_of (codes "start") (matches_of (sized name) (first ∷ a ∷ b ∷ c ∷ [])) ≡ Some c
+    pub start_found : (first : Text) → first_of (codes "start") (matches_of (with_size name) (first ∷ a ∷ b ∷ c ∷ [])) ≡ Some c
     start_found first = ap (λ (w : Walk). first_of (codes "start") (finished shape.rules w.held)) at_end

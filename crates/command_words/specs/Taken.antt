@@ -19,8 +19,8 @@ abbrev pub flag : Text → Rule
 flag name = record (new_rule name) { long = Some name; action = Some SetTrue }
 
 -- a command with the three numbers of a size
-abbrev pub sized : Text → App
-sized name = with_rule (with_rule (with_rule (bare name) (place (codes "services"))) (place (codes "changes"))) (place (codes "start"))
+abbrev pub with_size : Text → App
+with_size name = with_rule (with_rule (with_rule (bare name) (place (codes "services"))) (place (codes "changes"))) (place (codes "start"))
 
 -- `step` with its two flags
 abbrev pub step_taken : App
@@ -40,11 +40,11 @@ frames_taken = bare (codes "frames")
 
 -- `make` with its three numbers
 abbrev pub make_taken : App
-make_taken = sized (codes "make")
+make_taken = with_size (codes "make")
 
 -- `load` with its three numbers
 abbrev pub load_taken : App
-load_taken = sized (codes "load")
+load_taken = with_size (codes "load")
 
 -- what clap is to take for a command
 abbrev pub taken_by : Command → App

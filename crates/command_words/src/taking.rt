@@ -5,7 +5,7 @@ ghost use Rattle.command_words.specs.Taken.{
   bare,
   flag,
   place,
-  sized,
+  with_size,
   taken_by,
   step_taken,
   check_taken,
@@ -73,19 +73,19 @@ fn frames_taken<'a>(alloc: Global) -> clap::Command<'a>
 fn make_taken<'a>(alloc: Global) -> Result<clap::Command<'a>, OutOfMemory>
     ensures { IfOk result (λ command. app_of command ≡ make_taken) }
 {
-    sized(alloc, "make")
+    with_size(alloc, "make")
 }
 
 // `load` with its three numbers.
 fn load_taken<'a>(alloc: Global) -> Result<clap::Command<'a>, OutOfMemory>
     ensures { IfOk result (λ command. app_of command ≡ load_taken) }
 {
-    sized(alloc, "load")
+    with_size(alloc, "load")
 }
 
 // A command with the three numbers of a size, as plain texts.
-fn sized<'a>(alloc: Global, name: &'a str) -> Result<clap::Command<'a>, OutOfMemory>
-    ensures { IfOk result (λ command. app_of command ≡ sized name.entry.now) }
+fn with_size<'a>(alloc: Global, name: &'a str) -> Result<clap::Command<'a>, OutOfMemory>
+    ensures { IfOk result (λ command. app_of command ≡ with_size name.entry.now) }
 {
     Ok(
         bare(alloc, name)
