@@ -52,7 +52,7 @@ digits_inside (suc k) n behind p =
     chosen (n / 10 == 0) (digit_glyph false (n % 10) ∷ behind) (digits_onto k 10 false (n / 10) (digit_glyph false (n % 10) ∷ behind))
     (λ _. (glyph (n % 10), p)) (λ _. digits_inside k (n / 10) (digit_glyph false (n % 10) ∷ behind) (glyph (n % 10), p))
 
-decimal_inside : (n : ℕ) → Inside (decimal n)
+pub decimal_inside : (n : ℕ) → Inside (decimal n)
 unfolding digits
 decimal_inside n = digits_inside 64 n [] tt
 

@@ -1,5 +1,5 @@
 -- Trace lines are what is left out of an untraced text.
-use Rattle.std.proofs.Common.{◌≡◌, ◌∙◌, sym, ap, refl, ℕ, suc, ◌<◌, ◌≤◌, ◌^◌, ◌+◌, arith, Bool, true, false, not, ◌==◌, ne_eqb, List, [], ◌∷◌, ◌++◌, append_assoc, length, flat_map, filter}
+use Rattle.std.proofs.Common.{◌≡◌, ◌∙◌, sym, ap, refl, ℕ, suc, ◌<◌, ◌≤◌, ◌+◌, arith, Bool, true, false, not, ◌==◌, ne_eqb, List, [], ◌∷◌, ◌++◌, append_assoc, length, flat_map, filter}
 use Rattle.std.specs.Fmt.{decimal}
 use Rattle.std.specs.Prelude.{codes, All}
 use Rattle.propagation.specs.Notes.{Note}
@@ -8,12 +8,12 @@ use Rattle.node_core.specs.declared.entry.Entry.{Entry}
 use Rattle.trace_text.specs.Untraced.{lines_of, is_traced, untraced}
 use Rattle.trace_text.specs.Naming.{Naming, AreNamed}
 use Rattle.trace_text.specs.Lines.{comma_list, entry_text, entry_line, log_text, logs_text, family_text}
-use Rattle.trace_text.specs.Entries.{IsEntryOf, AreEntriesOf}
+use Rattle.trace_text.specs.Named.{NamesBelow}
 use Rattle.trace_text.specs.Notes.{IsNoteOf, note_text, step_line, steps_text, sources_line, sources_lines}
 use Rattle.trace_text.specs.Blocks.{Flags, Trace, if_wanted, trace_lines, IsTraceOf}
 use Rattle.trace_text.specs.Inside.Cutting.{Lacks}
 use Rattle.trace_text.proofs.Words.{Lacks-append, lacks_by, Each, each_of, comma_list-lacks}
-use Rattle.trace_text.proofs.Texts.{decimal-lacks}
+use Rattle.trace_text.proofs.Inside.{decimal_inside}
 use Rattle.trace_text.proofs.EntryBytes.{entry_text-lacks, lf-lacks}
 use Rattle.trace_text.proofs.LinesOf.{lines_line}
 
@@ -46,14 +46,14 @@ all_go Is line goes (x ∷ xs) each rest =
 -- ---- the lines of a block
 
 module _ (name : Naming) (count : ℕ) (named : AreNamed name count) where
-  entry_goes : (n : ℕ) → n < count → (x : Entry) → IsEntryOf count x → (rest : List ℕ) → untraced (entry_line name n x ++ rest) ≡ untraced rest
+  entry_goes : (n : ℕ) → n < count → (x : Entry) → NamesBelow count x → (rest : List ℕ) → untraced (entry_line name n x ++ rest) ≡ untraced rest
   entry_goes n lt x is rest = three_go (codes "# log ") (name n) (entry_text name x) rest (lacks_by 10 (codes "# log ") refl) (lf-lacks name count named n lt) (entry_text-lacks name count named x is) (λ more. refl)
 
-  logs_go : (n : ℕ) (logs : List (List Entry)) → n + length logs ≤ count → Each (AreEntriesOf count) logs → (rest : List ℕ) → untraced (logs_text name n logs ++ rest) ≡ untraced rest
+  logs_go : (n : ℕ) (logs : List (List Entry)) → n + length logs ≤ count → Each (λ log. All (NamesBelow count) log) logs → (rest : List ℕ) → untraced (logs_text name n logs ++ rest) ≡ untraced rest
   logs_go n [] le each rest = refl
   logs_go n (log ∷ logs) le each rest =
       ap untraced (append_assoc (log_text name n log) (logs_text name (suc n) logs) rest)
-      ∙ all_go (IsEntryOf count) (entry_line name n) (entry_goes n (omega (arith, le))) log (each_of (IsEntryOf count) log each.0) (logs_text name (suc n) logs ++ rest)
+      ∙ all_go (NamesBelow count) (entry_line name n) (entry_goes n (omega (arith, le))) log (each_of (NamesBelow count) log each.0) (logs_text name (suc n) logs ++ rest)
       ∙ logs_go (suc n) logs (omega (arith, le)) each.1 rest
 
   note-lacks : (note : Note) → IsNoteOf count note → Lacks 10 (note_text name note)
@@ -67,8 +67,8 @@ module _ (name : Naming) (count : ℕ) (named : AreNamed name count) where
   note-lacks still is = lacks_by 10 (codes "still") refl
   note-lacks idle is = lacks_by 10 (codes "idle") refl
 
-  step_goes : (step : ℕ × Note) → (step.0 < 2 ^ 64) × IsNoteOf count step.1 → (rest : List ℕ) → untraced (step_line name step.0 step.1 ++ rest) ≡ untraced rest
-  step_goes step is rest = three_go (codes "# step ") (decimal step.0) (note_text name step.1) rest (lacks_by 10 (codes "# step ") refl) (decimal-lacks 10 step.0 is.0 refl) (note-lacks step.1 is.1) (λ more. refl)
+  step_goes : (step : ℕ × Note) → IsNoteOf count step.1 → (rest : List ℕ) → untraced (step_line name step.0 step.1 ++ rest) ≡ untraced rest
+  step_goes step is rest = three_go (codes "# step ") (decimal step.0) (note_text name step.1) rest (lacks_by 10 (codes "# step ") refl) (decimal_inside step.0) (note-lacks step.1 is) (λ more. refl)
 
   IsKeys : List ℕ → Type 0
   IsKeys keys = Each (λ key. key < count) keys
@@ -95,6 +95,6 @@ module _ (name : Naming) (count : ℕ) (named : AreNamed name count) where
       let logs : List ℕ = if_wanted flags.logs (family_text name trace.logs) in
       let sources : List ℕ = if_wanted flags.sources (sources_lines name 0 trace.sources) in
       ap untraced (append_assoc notes (logs ++ sources) rest ∙ ap (λ (t : List ℕ). notes ++ t) (append_assoc logs sources rest))
-      ∙ if_wanted_goes flags.notes (steps_text name trace.notes) (logs ++ (sources ++ rest)) (all_go (λ step. (step.0 < 2 ^ 64) × IsNoteOf count step.1) (λ step. step_line name step.0 step.1) step_goes trace.notes (each_of (λ step. (step.0 < 2 ^ 64) × IsNoteOf count step.1) trace.notes is.notes) (logs ++ (sources ++ rest)))
-      ∙ if_wanted_goes flags.logs (family_text name trace.logs) (sources ++ rest) (logs_go 0 trace.logs (omega (arith, is.logs.logs)) (each_of (AreEntriesOf count) trace.logs is.logs.entries) (sources ++ rest))
+      ∙ if_wanted_goes flags.notes (steps_text name trace.notes) (logs ++ (sources ++ rest)) (all_go (λ step. IsNoteOf count step.1) (λ step. step_line name step.0 step.1) step_goes trace.notes (each_of (λ step. IsNoteOf count step.1) trace.notes is.notes) (logs ++ (sources ++ rest)))
+      ∙ if_wanted_goes flags.logs (family_text name trace.logs) (sources ++ rest) (logs_go 0 trace.logs (omega (arith, is.logs)) (each_of (λ log. All (NamesBelow count) log) trace.logs is.entries) (sources ++ rest))
       ∙ if_wanted_goes flags.sources (sources_lines name 0 trace.sources) rest (sources_go 0 trace.sources (omega (arith, is.lists)) (each_of (λ keys. All (λ key. key < count) keys) trace.sources is.sources) rest)

@@ -9,7 +9,7 @@ use Rattle.trace_text.specs.Inside.Cutting.{Lacks}
 use Rattle.trace_text.specs.Reading.{owned_entries, family_entries}
 use Rattle.trace_text.proofs.Words.{Lacks-append, lacks_by, Each, each_of, one_split}
 use Rattle.trace_text.proofs.OneEntry.{one_line}
-use Rattle.trace_text.proofs.EntryBytes.{entry_text-lacks, lf-lacks}
+use Rattle.trace_text.proofs.EntryBytes.{entry_text-lacks, lf-lacks, names_below}
 
 -- entries, each with its service
 abbrev pub Owned : Type 0
@@ -92,7 +92,7 @@ module _ (name : Naming) (count : ℕ) (names : AreNames name count) where
   body n x = codes "# log " ++ (name n ++ 32 ∷ entry_text name x)
 
   body-lacks : (n : ℕ) (x : Entry) → n < count → IsEntryOf count x → Lacks 10 (body n x)
-  body-lacks n x lt is = Lacks-append 10 (codes "# log ") _ (lacks_by 10 (codes "# log ") refl) (Lacks-append 10 (name n) (32 ∷ entry_text name x) (lf-lacks name count names.named n lt) ((λ e. omega (arith, e)), entry_text-lacks name count names.named x is))
+  body-lacks n x lt is = Lacks-append 10 (codes "# log ") _ (lacks_by 10 (codes "# log ") refl) (Lacks-append 10 (name n) (32 ∷ entry_text name x) (lf-lacks name count names.named n lt) ((λ e. omega (arith, e)), entry_text-lacks name count names.named x (names_below count x is)))
 
   pub line-body : (n : ℕ) (x : Entry) (rest : List ℕ) → entry_line name n x ++ rest ≡ body n x ++ 10 ∷ rest
   line-body n x rest =

@@ -1,10 +1,10 @@
 -- The trace lines before the settled block of a leg.
-use Rattle.std.specs.Prelude.{◌≡◌, ℕ, Bool, ◌<◌, ◌^◌, List, [], ◌++◌, length, All, if◌then◌else◌}
+use Rattle.std.specs.Prelude.{◌≡◌, ℕ, Bool, ◌<◌, List, [], ◌++◌, length, All, if◌then◌else◌}
 use Rattle.propagation.specs.Notes.{Note}
 use Rattle.node_core.specs.declared.entry.Entry.{Entry}
 use Rattle.trace_text.specs.Naming.{Naming}
 use Rattle.trace_text.specs.Lines.{family_text}
-use Rattle.trace_text.specs.Entries.{IsFamilyOf}
+use Rattle.trace_text.specs.Named.{NamesBelow}
 use Rattle.trace_text.specs.Notes.{IsNoteOf, steps_text, sources_lines}
 
 -- which trace lines are wanted: those of notes, those of logs and those of sources
@@ -29,9 +29,10 @@ trace_lines flags name trace =
     if_wanted flags.notes (steps_text name trace.notes)
     ++ (if_wanted flags.logs (family_text name trace.logs) ++ if_wanted flags.sources (sources_lines name 0 trace.sources))
 
--- All that it names are some of the first `count` services, and each number of a line has 64 bits.
+-- There are a log and a list of sources for each of the first `count` services, and all that it names are such.
 pub record IsTraceOf (count : ℕ) (trace : Trace) : Type 0 where
-  pub notes : All (λ step. (step.0 < 2 ^ 64) × IsNoteOf count step.1) trace.notes
-  pub logs : IsFamilyOf count trace.logs
+  pub notes : All (λ step. IsNoteOf count step.1) trace.notes
+  pub logs : length trace.logs ≡ count
+  pub entries : All (λ log. All (NamesBelow count) log) trace.logs
   pub lists : length trace.sources ≡ count
   pub sources : All (λ keys. All (λ key. key < count) keys) trace.sources

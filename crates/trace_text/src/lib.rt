@@ -7,8 +7,6 @@ mod note;
 mod printing;
 mod reading;
 mod settled;
-#[cfg(test)]
-mod tests;
 mod trace_error;
 
 pub use laws::{
