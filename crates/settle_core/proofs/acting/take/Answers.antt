@@ -22,7 +22,7 @@ returns-in-Ok-clause-takes c =
     let there : place_of c.args.id c.args.sender < length c.reserve.new.links.items = (let less : place_of c.args.id c.args.sender < length (waiting_in c.args.links.now.items) = c.requires.from in
     let count : length c.reserve.new.links.items ≡ length c.args.links.now.items = c.in_ok-reserve.ensures.same.count in
     let map_count : length (waiting_in c.args.links.now.items) ≡ length c.args.links.now.items = length-map c.args.links.now.items _ in omega arith) in
-    take_first c.args.id c.args.sender c.in-Some.bytes c.args.node.now c.take.new.self c.in-Ok.ensures.ok c.args.links.now.items c.reserve.new.links.items c.pop.new.links.items c.hand_over.new.links.items
+    take_first c.args.id c.args.sender c.in-Some.bytes c.args.node.now c.take.new.self c.in-Ok.ensures.ok c.in-Ok.ensures.took c.args.links.now.items c.reserve.new.links.items c.pop.new.links.items c.hand_over.new.links.items
     c.in_ok-reserve.ensures.same there c.in-Some.ensures.some c.requires.sender c.requires.ready.handed c.hand_over.ensures.len c.hand_over.ensures.links
     c.hand_over.new.node (c.take.new.self.handed + length c.take.new.self.outbox) c.hand_over.ensures.node
 
