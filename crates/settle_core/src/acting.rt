@@ -92,6 +92,9 @@ pub(crate) fn do_next(
     ensures answer { IfOk result (λ is_done. IsTrue is_done ↔ (node.old.state.left ≢ [])) }
     ensures err { OnErr result ((node.new ≡ node.old) × (waiting_in links.new.items ≡ waiting_in links.old.items)) }
 {
+    if !node.has_change() {
+        return Ok(false);
+    }
     let clock = node.clock();
     reserve_all(links, node.edges(), id)?;
     reserve_named(links, history.at(clock.0 as usize + 1), id)?;
