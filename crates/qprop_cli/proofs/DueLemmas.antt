@@ -1,24 +1,33 @@
 -- What was added is a beginning of the text due, and at the end all of it.
 use Rattle.std.specs.Io.KnownBytes.{Appends}
-use Rattle.std.proofs.Common.{subst, sym, ℕ, List, Option, None, Some}
+use Rattle.std.proofs.Common.{◌≡◌, subst, sym, ℕ, List, [], map, Option, None, Some}
 use Rattle.settle_core.specs.Net.{NetworkView}
+use Rattle.settle_core.specs.Values.{value_of}
+use Rattle.svc_graph.specs.Central.{AreCentral}
+use Rattle.svc_graph.specs.History.{Row}
 use Rattle.svc_plan.specs.declared.plan.Leg.{Leg}
-use Rattle.svc_plan.specs.declared.plan.Mode.{Mode}
 use Rattle.svc_plan.specs.declared.plan.Mode.TheVariants as mode
+use Rattle.svc_plan.specs.Rows.{rows_after_all, AreLegsAfter}
+use Rattle.svc_value.specs.declared.value.Value.{Value}
+use Rattle.trace_text.specs.Settled.{Settles}
+use Rattle.trace_text.proofs.TracesSettle.{untraced_settles}
 use Rattle.document_reading.specs.declared.refusal.Refusal.{Refusal}
 use Rattle.document_reading.specs.Document.{HasLegs}
 use Rattle.command_words.specs.declared.command.Command.{Command}
-use Rattle.command_words.specs.declared.command.Command.TheVariants.{Step, Check, Central, Frames, Make}
+use Rattle.command_words.specs.declared.command.Command.TheVariants.{Step, Check, Central, Frames, Make, Load}
 use Rattle.command_words.specs.declared.size.Size.{Size}
+use Rattle.command_words.specs.declared.trace_flags.TraceFlags.{TraceFlags}
 use Rattle.command_words.specs.Words.{usage_line}
 use Rattle.document_generator.specs.Generator.{generated}
 use Rattle.qprop_cli.specs.Commands.Central.{CentralOutput}
 use Rattle.qprop_cli.specs.Commands.Check.{accepted_line, CheckOutput}
 use Rattle.qprop_cli.specs.Commands.Frames.{HasLines, FramesOutput}
-use Rattle.qprop_cli.specs.Commands.Step.{HasDone, SettledOutput}
-use Rattle.qprop_cli.specs.Inside.Blocks.{AddsSettled, AddsBlocks}
+use Rattle.qprop_cli.specs.Commands.Load.{load_line, LoadedOutput}
+use Rattle.qprop_cli.specs.Commands.Step.{IsTracedText, SettledOutput, wanted}
+use Rattle.qprop_cli.specs.Inside.Blocks.{AddsText, BeginsText, AddsTraced}
 use Rattle.qprop_cli.specs.Inside.Input.{GivesLegs}
-use Rattle.qprop_cli.specs.Outcome.{RefusesInput, WritesBlocks, by_step, by_central, IsDue, AddsDue}
+use Rattle.qprop_cli.specs.Inside.Running.{HasRunAll, SumsUp}
+use Rattle.qprop_cli.specs.Outcome.{RefusesInput, WritesBlocks, IsDue, AddsDue}
 use Rattle.qprop_cli.specs.Refusals.{refusal_line}
 use Rattle.qprop_cli.specs.Streams.{ReadsUpTo, AddsBeginning}
 use Rattle.qprop_cli.proofs.InputLemmas.{whole_read}
@@ -36,37 +45,40 @@ module _ (left_old left_new held_old held_new : Option (List ℕ)) where
   -- ---- `step` and `central`
 
   -- the blocks of the legs that were run
-  written_due : {command : Command} {written : Mode} → WritesBlocks command written → (legs : List Leg) → GivesLegs written left_old left_new legs →
-      AddsBlocks held_old held_new legs → AddsDue (Some command) left_old left_new held_old held_new
-  written_due {command} {written} writes legs gives added =
+  pub blocks_due : (flags : TraceFlags) (legs : List Leg) → GivesLegs mode.Step left_old left_new legs → BeginsText (IsTracedText flags) held_old held_new legs →
+      AddsDue (Some (Step flags)) left_old left_new held_old held_new
+  blocks_due flags legs gives added =
       record {
         text = added.text;
-        due = IsDue.blocks writes gives.read added.run added.left gives.whole (subst (λ l. HasLegs written gives.read l) (sym added.all) gives.accepted) added.settles;
+        due = IsDue.blocks gives.read added.run added.left gives.whole (subst (λ l. HasLegs mode.Step gives.read l) (sym added.all) gives.accepted) (WritesBlocks.by_step added.is_text);
         begun = added.begun;
       }
 
-  pub blocks_due : (legs : List Leg) → GivesLegs mode.Step left_old left_new legs → AddsBlocks held_old held_new legs → AddsDue (Some Step) left_old left_new held_old held_new
-  blocks_due = written_due by_step
+  pub central_blocks_due : (legs : List Leg) → GivesLegs mode.Plain left_old left_new legs → BeginsText (Settles 0 []) held_old held_new legs → AddsDue (Some Central) left_old left_new held_old held_new
+  central_blocks_due legs gives added =
+      record {
+        text = added.text;
+        due = IsDue.blocks gives.read added.run added.left gives.whole (subst (λ l. HasLegs mode.Plain gives.read l) (sym added.all) gives.accepted) (WritesBlocks.by_central added.is_text);
+        begun = added.begun;
+      }
 
-  pub central_blocks_due : (legs : List Leg) → GivesLegs mode.Plain left_old left_new legs → AddsBlocks held_old held_new legs → AddsDue (Some Central) left_old left_new held_old held_new
-  central_blocks_due = written_due by_central
-
-  pub settled_output : (legs : List Leg) (network : NetworkView) → GivesLegs mode.Step left_old left_new legs → AddsSettled held_old held_new legs → HasDone legs network →
-      SettledOutput left_old left_new held_old held_new (Some network)
-  settled_output legs network gives run done = record {
+  pub settled_output : (flags : TraceFlags) (legs : List Leg) (network : NetworkView) → GivesLegs mode.Step left_old left_new legs → AreLegsAfter [] legs → AddsTraced flags held_old held_new legs network →
+      SettledOutput flags left_old left_new held_old held_new (Some network)
+  settled_output flags legs network gives after run = record {
     read = gives.read;
     whole = gives.whole;
     legs = legs;
     accepted = gives.accepted;
-    added = run.text;
-    gained = run.added;
-    settles = run.settles;
-    network_done = done;
+    added = run.adds.text;
+    gained = run.adds.added;
+    settles = untraced_settles (wanted flags) 0 [] legs run.adds.is_text.traces run.adds.text tt after run.adds.is_text.lines;
+    text = run.adds.is_text;
+    network_done = run.done;
   }
 
-  pub central_output : (legs : List Leg) → GivesLegs mode.Plain left_old left_new legs → AddsSettled held_old held_new legs → CentralOutput left_old left_new held_old held_new
+  pub central_output : (legs : List Leg) → GivesLegs mode.Plain left_old left_new legs → AddsText (Settles 0 []) held_old held_new legs → CentralOutput left_old left_new held_old held_new
   central_output legs gives run =
-      record { read = gives.read; whole = gives.whole; legs = legs; accepted = gives.accepted; added = run.text; gained = run.added; settles = run.settles }
+      record { read = gives.read; whole = gives.whole; legs = legs; accepted = gives.accepted; added = run.text; gained = run.added; settles = run.is_text }
 
   -- ---- `check`
 
@@ -77,7 +89,7 @@ module _ (left_old left_new held_old held_new : Option (List ℕ)) where
   pub check_output : (legs : List Leg) → GivesLegs mode.Plain left_old left_new legs → Appends held_old held_new (accepted_line legs) → CheckOutput left_old left_new held_old held_new
   check_output legs gives gained = record { read = gives.read; whole = gives.whole; legs = legs; accepted = gives.accepted; gained = gained }
 
-  -- ---- `frames` and `make`
+  -- ---- `frames`, `make` and `load`
 
   pub lines_due : (read text : List ℕ) → ReadsUpTo 1048576 left_old left_new read → HasLines read text → AddsBeginning held_old held_new text →
       AddsDue (Some Frames) left_old left_new held_old held_new
@@ -90,3 +102,30 @@ module _ (left_old left_new held_old held_new : Option (List ℕ)) where
 
   pub made_due : (size : Size) → AddsBeginning held_old held_new (generated size.services size.changes size.start) → AddsDue (Some (Make size)) left_old left_new held_old held_new
   made_due size begun = record { text = generated size.services size.changes size.start; due = IsDue.made size; begun = begun }
+
+  pub loaded_due : (size : Size) (network : NetworkView) (text : List ℕ) → SumsUp size network text → AddsBeginning held_old held_new text → AddsDue (Some (Load size)) left_old left_new held_old held_new
+  loaded_due size network text sums begun =
+      record { text = text; due = subst (λ (t : List ℕ). IsDue left_old left_new (Some (Load size)) t) (sym sums.line) (IsDue.loaded size sums.legs sums.values sums.accepted sums.central); begun = begun }
+
+-- the line of the run of a document that is made was added
+pub loaded_output : (size : Size) (held_old held_new : Option (List ℕ)) (network : NetworkView) (text : List ℕ) → SumsUp size network text → Appends held_old held_new text → LoadedOutput size held_old held_new (Some network)
+loaded_output size held_old held_new network text sums gained = record {
+  legs = sums.legs;
+  accepted = sums.accepted;
+  values = sums.values;
+  central = sums.central;
+  gained = subst (λ (t : List ℕ). Appends held_old held_new t) sums.line gained;
+  network_done = sums.done;
+}
+
+-- the network ran the document of this size, and these are its values
+pub sums_up : (size : Size) (legs : List Leg) (values : List Value) (network : NetworkView) (text : List ℕ) → HasLegs mode.Plain (generated size.services size.changes size.start) legs →
+    HasRunAll legs network → map Some values ≡ map value_of network.services → AreCentral network.rows values → text ≡ load_line legs values → SumsUp size network text
+sums_up size legs values network text accepted run held central line = record {
+  legs = legs;
+  accepted = accepted;
+  done = record { histories = run.histories; quiet = run.quiet; holds = record { values = values; held = held; central = central }; last = run.last };
+  values = values;
+  central = subst (λ (rows : List Row). AreCentral rows values) run.histories central;
+  line = line;
+}

@@ -1,10 +1,11 @@
 -- From how a command ended to how the call ends: a refusal is answered behind what is held, and what is accepted is not refused.
-use Rattle.std.proofs.Common.{◌≡◌, ◌∙◌, ◌↔◌, sym, ap, refl, subst, inl, ℕ, ◌≤◌, arith, List, [], ◌++◌, Option, None, Some, Result, Ok, Err}
+use Rattle.std.proofs.Common.{◌≡◌, ◌∙◌, ◌↔◌, ◌⊎◌, sym, ap, refl, subst, inl, inr, ℕ, ◌≤◌, arith, List, [], ◌++◌, Option, None, Some, Result, Ok, Err}
 use Rattle.std.specs.Prelude.{IsSome}
 use Rattle.std.specs.Io.KnownBytes.{Appends, Keeps}
 use Rattle.settle_core.specs.Net.{NetworkView}
 use Rattle.command_words.specs.declared.command.Command.{Command}
-use Rattle.command_words.specs.declared.command.Command.TheVariants.{Step, Check, Central, Frames, Make}
+use Rattle.command_words.specs.declared.command.Command.TheVariants.{Step, Check, Central, Frames, Make, Load}
+use Rattle.command_words.specs.declared.size.Size.{Size}
 use Rattle.svc_plan.specs.declared.plan.Mode.TheVariants as mode
 use Rattle.svc_value.specs.Causes.{Rose}
 use Rattle.document_reading.specs.declared.refusal.Refusal.{Refusal}
@@ -13,7 +14,7 @@ use Rattle.qprop_cli.specs.declared.command_error.CommandError.{CommandError}
 use Rattle.qprop_cli.specs.declared.command_error.CommandError.TheVariants.{Refused, ReadFault, WriteFault}
 use Rattle.qprop_cli.specs.declared.outcome.Status.TheVariants.{Done}
 use Rattle.qprop_cli.specs.Ending.{Ends, Performs}
-use Rattle.qprop_cli.specs.Outcome.{IsAcceptedBy, IsRefusedBy, RefusesInput, RefusedOutput, AddsDue}
+use Rattle.qprop_cli.specs.Outcome.{IsAcceptedBy, IsRefusedBy, RefusesInput, RefusedOutput, RunsLegs, AddsDue}
 use Rattle.qprop_cli.specs.Refusals.{refusal_line}
 use Rattle.qprop_cli.specs.Streams.{AddsBeginning}
 use Rattle.qprop_cli.proofs.DueLemmas.{refusal_due}
@@ -42,6 +43,22 @@ done_ends command left_old left_new source_old source_new held_old held_new sink
   nothing = λ is. absurd (cc is);
   write_fault = λ is. absurd (cc is);
   begun = λ is. absurd (cc is);
+  memory = λ is. absurd (cc is);
+}
+
+-- the sink failed
+pub fault_ends : (command : Command) (left_old left_new : Option (List ℕ)) (source_old source_new : ℕ) (held_old held_new : Option (List ℕ)) (sink_old sink_new : ℕ) →
+    sink_old ≤ sink_new → Rose sink_old sink_new → AddsDue (Some command) left_old left_new held_old held_new →
+    Ends command left_old left_new source_old source_new held_old held_new sink_old sink_new (Err WriteFault)
+fault_ends command left_old left_new source_old source_new held_old held_new sink_old sink_new later rose begun = record {
+  later = later;
+  done = tt;
+  refused = λ refusal is. absurd (cc is);
+  unanswered = λ refusal is. absurd (cc is);
+  read_fault = λ is. absurd (cc is);
+  nothing = λ is. absurd (cc is);
+  write_fault = λ is. rose;
+  begun = λ is. begun;
   memory = λ is. absurd (cc is);
 }
 
@@ -112,27 +129,38 @@ performed words command own left_old left_new held_old held_new network same is 
     the_command : Some command ≡ Some own → command ≡ own
     the_command e = cc e
 
--- a network is handed out by `step` alone
+-- the words stand for the command that was performed, where it reads nothing
+pub asked_for : (words : Option Command) (command : Command) (size : Size) → Some command ≡ words → (words ≡ Some (Make size)) ⊎ (words ≡ Some (Load size)) → (command ≡ Make size) ⊎ (command ≡ Load size)
+asked_for words command size same (inl made) = inl (let e : Some command ≡ Some (Make size) = same ∙ made in cc e)
+asked_for words command size same (inr loaded) = inr (let e : Some command ≡ Some (Load size) = same ∙ loaded in cc e)
+
+-- a network is handed out by `step` and `load` alone
 no_network : (network : Option NetworkView) → network ≡ None → IsSome network → ⊥
 no_network None none some = cc some
 no_network (Some network) none some = cc none
 
 pub network_there : (words : Option Command) (command : Command) (left_old left_new held_old held_new : Option (List ℕ)) (network : Option NetworkView) →
-    Some command ≡ words → Performs command left_old left_new held_old held_new network → IsSome network ↔ ((words ≡ Some Step) × (Done ≡ Done))
-network_there words Step left_old left_new held_old held_new network same done = ((λ some. (sym same, refl)), (λ both. done.1))
-network_there words Check left_old left_new held_old held_new network same done = ((λ some. absurd (no_network network done.1 some)), (λ both. absurd (cc (same ∙ both.0))))
-network_there words Central left_old left_new held_old held_new network same done = ((λ some. absurd (no_network network done.1 some)), (λ both. absurd (cc (same ∙ both.0))))
-network_there words Frames left_old left_new held_old held_new network same done = ((λ some. absurd (no_network network done.1 some)), (λ both. absurd (cc (same ∙ both.0))))
-network_there words (Make size) left_old left_new held_old held_new network same done = ((λ some. absurd (no_network network done.1 some)), (λ both. absurd (cc (same ∙ both.0))))
+    Some command ≡ words → Performs command left_old left_new held_old held_new network → IsSome network ↔ (RunsLegs words × (Done ≡ Done))
+network_there words command left_old left_new held_old held_new network same done =
+    subst (λ (o : Option Command). IsSome network ↔ (RunsLegs o × (Done ≡ Done))) same (there command done)
+  where
+    there : (c : Command) → Performs c left_old left_new held_old held_new network → IsSome network ↔ (RunsLegs (Some c) × (Done ≡ Done))
+    there (Step flags) is = ((λ some. (tt, refl)), (λ both. is.1))
+    there (Load size) is = ((λ some. (tt, refl)), (λ both. is.1))
+    there Check is = ((λ some. absurd (no_network network is.1 some)), (λ both. absurd both.0))
+    there Central is = ((λ some. absurd (no_network network is.1 some)), (λ both. absurd both.0))
+    there Frames is = ((λ some. absurd (no_network network is.1 some)), (λ both. absurd both.0))
+    there (Make size) is = ((λ some. absurd (no_network network is.1 some)), (λ both. absurd both.0))
 
 -- ---- what is accepted is not refused
 
 accepted_whole : (command : Command) (read : List ℕ) (refusal : Refusal) → IsAcceptedBy command read → IsRefusedBy (Some command) read refusal → ⊥
-accepted_whole Step read refusal is refused = one_answer [] 0 mode.Step read refusal refused is
+accepted_whole (Step flags) read refusal is refused = one_answer [] 0 mode.Step read refusal refused is
 accepted_whole Check read refusal is refused = one_answer [] 0 mode.Plain read refusal refused is
 accepted_whole Central read refusal is refused = one_answer [] 0 mode.Plain read refusal refused is
 accepted_whole Frames read refusal is refused = stream_is_accepted read is.0 refusal is.1 refused
 accepted_whole (Make size) read refusal is refused = refused
+accepted_whole (Load size) read refusal is refused = refused
 
 pub not_refused : (words : Option Command) (command own : Command) (read : List ℕ) (left_old left_new : Option (List ℕ)) (refusal : Refusal) → Some command ≡ words → words ≡ Some own →
     left_old ≡ Some read → IsAcceptedBy own read → RefusesInput (Some command) left_old left_new refusal → ⊥

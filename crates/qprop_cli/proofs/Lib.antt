@@ -1,11 +1,15 @@
+pub mod BornLemmas
 pub mod CentralLemmas
 pub mod CountLemmas
 pub mod DueLemmas
 pub mod EndingLemmas
 pub mod InputLemmas
 pub mod LegLemmas
-pub mod NamedStepLemmas
+pub mod NamedEntries
+pub mod NamedNotes
 pub mod RunLemmas
+pub mod SourceLemmas
 pub mod SteppedLemmas
 pub mod StreamLemmas
+pub mod TraceLemmas
 pub mod WritingLemmas

@@ -1,15 +1,17 @@
 -- Step lines, one more; and the leg that they and a drain have run.
-use Rattle.std.proofs.Common.{◌≡◌, ◌∙◌, sym, ap, ap₂, subst, refl, ℕ, ◌+◌, ◌<◌, ◌≤◌, arith, ltb, List, [], ◌∷◌, ◌++◌, inl, inr, true, length, length-append, map, reverse, take, slice_index_or}
+use Rattle.std.proofs.Common.{◌≡◌, ◌∙◌, sym, ap, ap₂, subst, refl, ℕ, ◌+◌, ◌<◌, ◌≤◌, arith, ltb, Bool, true, false, List, [], ◌∷◌, ◌++◌, append-nil, append_assoc, inl, inr, All, length, length-append, map, reverse, take, slice_index_or}
 use Rattle.std.proofs.lemmas.Bool.{cases_Bool, ltb-true, ltb-false}
 use Rattle.std.proofs.lemmas.List.{get_or_past, map-append, reverse-append, take_more}
+use Rattle.std.proofs.lemmas.List.Concat.{flat_map-append}
+use Rattle.std.proofs.lemmas.List.Elements.{All-append, All-cons, All-nil}
 use Rattle.propagation.specs.History.{Book, now}
-use Rattle.propagation.specs.Notes.{Step}
+use Rattle.propagation.specs.Notes.{Step, Note, Noted}
 use Rattle.propagation.proofs.Truth.{computations_are_true}
 use Rattle.propagation.proofs.WorkBound.{work_is_bounded}
 use Rattle.service_machine.specs.Noting.{step_of}
 use Rattle.settle_core.specs.Quiet.{is_quiet}
 use Rattle.settle_core.specs.Running.{Goes}
-use Rattle.settle_core.specs.Events.{event_of}
+use Rattle.settle_core.specs.Events.{AreDeclared, event_of}
 use Rattle.settle_core.specs.Legs.{IsNetwork, IsNoted}
 use Rattle.settle_core.specs.Net.{NetworkView, unborn, service_at, start_of, rank_at}
 use Rattle.settle_core.specs.Opening.{Opened, changes_of}
@@ -26,12 +28,25 @@ use Rattle.svc_plan.specs.declared.plan.Leg.{Leg}
 use Rattle.svc_plan.specs.declared.plan.StepEvent.{StepEvent}
 use Rattle.svc_plan.specs.declared.plan.StepEvent.TheVariants.{Do, Take, Turn}
 use Rattle.svc_plan.specs.declared.plan.StepLine.{StepLine}
-use Rattle.svc_plan.specs.Rows.{IsLegAfter}
+use Rattle.svc_plan.specs.Rows.{rows_after, IsAmong, IsLegAfter}
 use Rattle.svc_value.specs.declared.value.Value.{Value}
 use Rattle.svc_value.specs.declared.value.ValueType.TheVariants.{Int}
-use Rattle.qprop_cli.specs.Commands.Step.{HasRun}
-use Rattle.qprop_cli.specs.Commands.Step.{as_step}
-use Rattle.qprop_cli.specs.Inside.StepLines.{ordered, Makes, HasStepped}
+use Rattle.trace_text.specs.Blocks.{if_wanted}
+use Rattle.trace_text.specs.Named.{naming}
+use Rattle.trace_text.specs.Notes.{IsNoteOf, step_line, steps_text}
+use Rattle.qprop_cli.specs.Commands.Step.{as_step, AreNumbered, HasRun}
+use Rattle.qprop_cli.specs.Inside.StepLines.{ordered, AreNamed, Makes, HasStepped, RunsLeg}
+
+-- ---- the services of step lines
+
+is_declared : (count : ℕ) (event : StepEvent) → IsAmong count event → AreDeclared count (ordered event)
+is_declared count (Do n) is = is
+is_declared count (Take n p) is = is
+is_declared count (Turn n) is = is
+
+-- those of a leg are declared by its end
+pub steps_named : (rows : List Row) (leg : Leg) → IsLegAfter rows leg → AreNamed (length (rows_after rows leg)) leg.steps
+steps_named rows leg after k d less = is_declared (length (rows_after rows leg)) (slice_index_or leg.steps k d).event (after.steps k d less)
 
 -- ---- one line more
 
@@ -40,28 +55,66 @@ same_step (Do n) = refl
 same_step (Take n p) = refl
 same_step (Turn n) = refl
 
-pub stepped_none : (net : NetworkView) → IsNoted net [] → HasStepped [] net net
-stepped_none net noted = record { rows = refl; start = λ n. refl; lines = []; lines_are = refl; noted = noted }
+wanted_none : (is_wanted : Bool) (text : List ℕ) → text ≡ text ++ if_wanted is_wanted []
+wanted_none true text = sym (append-nil text)
+wanted_none false text = sym (append-nil text)
 
-reversed_more : (steps : List StepLine) (i : ℕ) (step : StepLine) → i < length steps → step ≡ slice_index_or steps i step →
-    as_step step.event ∷ reverse (map (λ s. as_step s.event) (take i steps)) ≡ reverse (map (λ s. as_step s.event) (take (i + 1) steps))
-reversed_more steps i step less at =
-    let f : StepLine → Step = λ s. as_step s.event in
-    let more : take (i + 1) steps ≡ take i steps ++ step ∷ [] = take_more steps i step less ∙ ap (λ (x : StepLine). take i steps ++ x ∷ []) (sym at) in
-    sym (ap (λ (xs : List StepLine). reverse (map f xs)) more ∙ ap (λ (xs : List Step). reverse xs) (map-append f (take i steps) (step ∷ [])) ∙ reverse-append (map f (take i steps)) (f step ∷ []))
+-- what is wanted of two texts is wanted of each
+wanted_more : (is_wanted : Bool) (before front behind : List ℕ) → (before ++ if_wanted is_wanted front) ++ if_wanted is_wanted behind ≡ before ++ if_wanted is_wanted (front ++ behind)
+wanted_more true before front behind = append_assoc before front behind
+wanted_more false before front behind = append-nil (before ++ [])
 
-pub stepped_next : (steps : List StepLine) (i : ℕ) (step : StepLine) (first old new : NetworkView) → i < length steps → step ≡ slice_index_or steps i step →
-    HasStepped (take i steps) first old → new.rows ≡ old.rows → Makes step.event old new → HasStepped (take (i + 1) steps) first new
-stepped_next steps i step first old new less at so_far rows makes =
+pub stepped_none : (is_wanted : Bool) (net : NetworkView) (text : List ℕ) → IsNoted net [] → HasStepped is_wanted [] net net text text
+stepped_none is_wanted net text noted = record {
+  rows = refl;
+  start = λ n. refl;
+  lines = [];
+  noted = noted;
+  notes = [];
+  numbered = AreNumbered.none;
+  named = All-nil (λ (step : ℕ × Note). IsNoteOf (length net.rows) step.1);
+  text = wanted_none is_wanted text;
+}
+
+-- one step line more, as its number and its note
+text_more : (is_wanted : Bool) (rows : List Row) (notes : List (ℕ × Note)) (line : ℕ) (note : Note) (first before after : List ℕ) → before ≡ first ++ if_wanted is_wanted (steps_text (naming rows) notes) →
+    after ≡ before ++ if_wanted is_wanted (step_line (naming rows) line note) → after ≡ first ++ if_wanted is_wanted (steps_text (naming rows) (notes ++ (line, note) ∷ []))
+text_more is_wanted rows notes line note first before after so_far more =
+    let front : List ℕ = steps_text (naming rows) notes in
+    let last : List ℕ = step_line (naming rows) line note in
+    let whole : steps_text (naming rows) (notes ++ (line, note) ∷ []) ≡ front ++ last =
+    flat_map-append (λ (step : ℕ × Note). step_line (naming rows) step.0 step.1) notes ((line, note) ∷ []) ∙ ap (λ (t : List ℕ). front ++ t) (append-nil last) in
+    more ∙ ap (λ (t : List ℕ). t ++ if_wanted is_wanted last) so_far ∙ wanted_more is_wanted first front last ∙ ap (λ (t : List ℕ). first ++ if_wanted is_wanted t) (sym whole)
+
+pub stepped_next : (is_wanted : Bool) (steps : List StepLine) (i : ℕ) (step : StepLine) (first old new : NetworkView) (text before after : List ℕ) → i < length steps → step ≡ slice_index_or steps i step →
+    HasStepped is_wanted (take i steps) first old text before → new.rows ≡ old.rows → Makes is_wanted step old new before after → HasStepped is_wanted (take (i + 1) steps) first new text after
+stepped_next is_wanted steps i step first old new text before after less at so_far rows makes =
     let was = so_far.noted.has in
     let h = makes.happened was.leg was.low was.logs was.is in
+    let more : take i steps ++ step ∷ [] ≡ take (i + 1) steps = sym (take_more steps i step less ∙ ap (λ (x : StepLine). take i steps ++ x ∷ []) (sym at)) in
+    let P : Step → Type 0 = λ s. IsNoted new ((s, makes.note) ∷ so_far.lines) in
+    let Q : List StepLine → Type 0 = λ ss. AreNumbered ss ((as_step step.event, makes.note) ∷ so_far.lines) (so_far.notes ++ (step.line, makes.note) ∷ []) in
+    let R : ℕ × Note → Type 0 = λ s. IsNoteOf (length first.rows) s.1 in
+    let named : IsNoteOf (length first.rows) makes.note = subst (λ (rs : List Row). IsNoteOf (length rs) makes.note) so_far.rows makes.named in
+    let line : after ≡ before ++ if_wanted is_wanted (step_line (naming first.rows) step.line makes.note) = makes.text ∙ ap (λ (rs : List Row). before ++ if_wanted is_wanted (step_line (naming rs) step.line makes.note)) so_far.rows in
     record {
       rows = rows ∙ so_far.rows;
       start = λ n. sym (h.in_leg.start n) ∙ was.is.start n ∙ so_far.start n;
-      lines = (step_of (event_of (ordered step.event)), makes.note) ∷ so_far.lines;
-      lines_are = ap₂ (λ (s : Step) (ss : List Step). s ∷ ss) (same_step step.event) so_far.lines_are ∙ reversed_more steps i step less at;
-      noted = notes_go_on old new (event_of (ordered step.event)) makes.note so_far.lines so_far.noted makes.happened;
+      lines = (as_step step.event, makes.note) ∷ so_far.lines;
+      noted = subst P (same_step step.event) (notes_go_on old new (event_of (ordered step.event)) makes.note so_far.lines so_far.noted makes.happened);
+      notes = so_far.notes ++ (step.line, makes.note) ∷ [];
+      numbered = subst Q more (AreNumbered.more step makes.note so_far.numbered);
+      named = All-append R so_far.notes ((step.line, makes.note) ∷ []) so_far.named (All-cons R (step.line, makes.note) [] named (All-nil R));
+      text = text_more is_wanted first.rows so_far.notes step.line makes.note text before after so_far.text line;
     }
+
+-- the lines that are numbered are these step lines
+pub numbered_lines : {steps : List StepLine} {lines : Noted} {notes : List (ℕ × Note)} → AreNumbered steps lines notes → map (λ line. line.0) lines ≡ reverse (map (λ step. as_step step.event) steps)
+numbered_lines AreNumbered.none = refl
+numbered_lines (AreNumbered.more {steps = steps} step note numbered) =
+    let f : StepLine → Step = λ s. as_step s.event in
+    ap (λ (ss : List Step). f step ∷ ss) (numbered_lines numbered)
+    ∙ sym (ap (λ (xs : List Step). reverse xs) (map-append f steps (step ∷ [])) ∙ reverse-append (map f steps) (f step ∷ []))
 
 -- ---- the leg that was run
 
@@ -81,24 +134,31 @@ opened_start old new leg after opens n =
     ]
 
 -- the step lines and a drain have run the leg
-pub leg_run : (old opened stepped new : NetworkView) (leg : Leg) → IsLegAfter old.rows leg → Opened leg old opened → HasStepped leg.steps opened stepped → IsNetwork stepped → Goes stepped new → IsNetwork new → is_quiet new ≡ true →
-    HasRun old.rows leg new
-leg_run old opened stepped new leg after opens steps before goes network quiet =
+pub leg_run : (is_wanted : Bool) (old opened stepped new : NetworkView) (leg : Leg) (before after : List ℕ) → IsLegAfter old.rows leg → Opened leg old opened → HasStepped is_wanted leg.steps opened stepped before after → IsNetwork stepped → Goes stepped new → IsNetwork new → is_quiet new ≡ true →
+    RunsLeg is_wanted old.rows leg new before after
+leg_run is_wanted old opened stepped new leg before after is_after opens steps was_network goes network quiet =
     let was = steps.noted.has in
     let runs = goes.runs was.leg was.low was.logs was.is in
     let here = runs.in_leg in
     let P : Book Value Definition → Type 0 = λ b. (n : ℕ) → 64 ≤ n → now b n ≡ 0 in
     let bounded = work_is_bounded Value Definition was.leg (rank_at new.rows) runs.logs 64 here.accepted here.fits.legal (subst P (sym here.book) (none_past new.rows network.book.few)) in
+    let same : opened.rows ≡ new.rows = sym (goes.rows ∙ steps.rows) in
     record {
-      has = record { leg = was.leg; low = was.low; logs = runs.logs; is = here };
-      start = λ n. was.is.start n ∙ steps.start n ∙ opened_start old opened leg after opens n;
-      legal = here.fits.legal;
-      truth = λ n v S picks has. computations_are_true Value Definition was.leg (rank_at new.rows) runs.logs here.accepted here.fits.legal n v S picks has;
-      work = bounded.0;
-      carried = bounded.1;
-      lines = steps.lines;
-      lines_are = steps.lines_are;
-      follows = notes_stay stepped new steps.lines before steps.noted goes;
-      quiet = quiet_family new network quiet was.leg was.low runs.logs here;
-      settled = settled_family new network quiet was.leg was.low runs.logs here;
+      run = record {
+        has = record { leg = was.leg; low = was.low; logs = runs.logs; is = here };
+        start = λ n. was.is.start n ∙ steps.start n ∙ opened_start old opened leg is_after opens n;
+        legal = here.fits.legal;
+        truth = λ n v S picks has. computations_are_true Value Definition was.leg (rank_at new.rows) runs.logs here.accepted here.fits.legal n v S picks has;
+        work = bounded.0;
+        carried = bounded.1;
+        lines = steps.lines;
+        lines_are = numbered_lines steps.numbered;
+        follows = notes_stay stepped new steps.lines was_network steps.noted goes;
+        quiet = quiet_family new network quiet was.leg was.low runs.logs here;
+        settled = settled_family new network quiet was.leg was.low runs.logs here;
+      };
+      notes = steps.notes;
+      numbered = steps.numbered;
+      named = subst (λ (rows : List Row). All (λ (step : ℕ × Note). IsNoteOf (length rows) step.1) steps.notes) same steps.named;
+      text = steps.text ∙ ap (λ (rows : List Row). before ++ if_wanted is_wanted (steps_text (naming rows) steps.notes)) same;
     }

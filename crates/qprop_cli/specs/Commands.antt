@@ -3,4 +3,5 @@ pub mod Central
 pub mod Check
 pub mod FrameLine
 pub mod Frames
+pub mod Load
 pub mod Step

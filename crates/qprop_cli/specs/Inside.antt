@@ -2,4 +2,5 @@
 pub mod Blocks
 pub mod FrameLines
 pub mod Input
+pub mod Running
 pub mod StepLines

@@ -1,12 +1,14 @@
 // The commands, each in a folder of its own.
-ghost use Rattle.std.specs.Prelude.{◌≡◌};
+ghost use Rattle.std.specs.Prelude.{◌≡◌, ◌⊎◌};
 ghost use Rattle.command_words.specs.declared.size.Size.{Size};
 ghost use Rattle.command_words.specs.Words.{IsSize};
 ghost use Rattle.qprop_cli.specs.Ending.{Ends};
 
 mod central;
 mod check;
+mod counts;
 mod frames;
+mod load;
 mod make;
 mod step;
 
@@ -25,17 +27,19 @@ pub(crate) fn perform<S: Source, K: Sink>(
     source: &mut S,
     sink: &mut K,
 ) -> Result<Option<Network>, CommandError>
-    requires size { (size : Size) → command ≡ Command.Make size → IsSize size }
+    requires made { (size : Size) → command ≡ Command.Make size → IsSize size }
+    requires loaded { (size : Size) → command ≡ Command.Load size → IsSize size }
     ensures ends { Ends command (S.left source.old) (S.left source.new)
         (S.faults source.old) (S.faults source.new) (K.held sink.old) (K.held sink.new)
         (K.faults sink.old) (K.faults sink.new) result }
-    ensures unread { (size : Size) → command ≡ Command.Make size → source.new ≡ source.old }
+    ensures unread { (size : Size) → (command ≡ Command.Make size) ⊎ (command ≡ Command.Load size) → source.new ≡ source.old }
 {
     match command {
-        Command::Step => step::step(alloc, source, sink),
+        Command::Step(flags) => step::step(alloc, flags, source, sink),
         Command::Check => check::check(alloc, source, sink),
         Command::Central => central::central(alloc, source, sink),
         Command::Frames => frames::frames(alloc, source, sink),
         Command::Make(size) => make::make(alloc, size, sink),
+        Command::Load(size) => load::load(alloc, size, sink),
     }
 }

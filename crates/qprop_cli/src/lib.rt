@@ -9,7 +9,7 @@ mod outcome;
 mod plain;
 mod plan;
 
-pub use command_words::{Command, Size, USAGE};
+pub use command_words::{Command, Size, TraceFlags, USAGE};
 pub use commands::streams_are_told;
 pub use outcome::{Outcome, Status};
 pub use plain::qprop_plain;

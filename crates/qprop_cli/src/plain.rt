@@ -5,12 +5,14 @@ ghost use Rattle.std.specs.String.{string_bytes};
 ghost use Rattle.document_reading.specs.declared.refusal.Refusal.{Refusal};
 ghost use Rattle.document_generator.specs.Generator.{generated};
 ghost use Rattle.command_words.specs.declared.size.Size.{Size};
+ghost use Rattle.command_words.specs.declared.trace_flags.TraceFlags.{TraceFlags};
 ghost use Rattle.svc_value.specs.Causes.{Rose};
 ghost use Rattle.qprop_cli.specs.Commands.Central.{CentralOutput};
 ghost use Rattle.qprop_cli.specs.Commands.Check.{CheckOutput};
 ghost use Rattle.qprop_cli.specs.Commands.Frames.{FramesOutput};
+ghost use Rattle.qprop_cli.specs.Commands.Load.{LoadedOutput};
 ghost use Rattle.qprop_cli.specs.Commands.Step.{SettledOutput};
-ghost use Rattle.qprop_cli.specs.Outcome.{IsAcceptedBy, RefusedOutput, AddsDue};
+ghost use Rattle.qprop_cli.specs.Outcome.{IsAcceptedBy, RefusedOutput, RunsLegs, AddsDue};
 ghost use Rattle.command_words.specs.Words.{command_of, usage_line};
 
 use crate::answers::{refuse, usage};
@@ -34,8 +36,8 @@ pub fn qprop_plain<S: Source, K: Sink>(
     ensures usage { result.status ≡ Status.Usage → command_of (map string_bytes words.now) ≡ None }
     ensures usage_line { result.status ≡ Status.Usage → Appends (K.held sink.old) (K.held sink.new) usage_line }
 
-    ensures settled { command_of (map string_bytes words.now) ≡ Some Command.Step → result.status ≡ Status.Done →
-        SettledOutput (S.left source.old) (S.left source.new) (K.held sink.old) (K.held sink.new) result.network }
+    ensures settled { (flags : TraceFlags) → command_of (map string_bytes words.now) ≡ Some (Command.Step flags) → result.status ≡ Status.Done →
+        SettledOutput flags (S.left source.old) (S.left source.new) (K.held sink.old) (K.held sink.new) result.network }
     ensures checked { command_of (map string_bytes words.now) ≡ Some Command.Check → result.status ≡ Status.Done →
         CheckOutput (S.left source.old) (S.left source.new) (K.held sink.old) (K.held sink.new) }
     ensures central { command_of (map string_bytes words.now) ≡ Some Command.Central → result.status ≡ Status.Done →
@@ -44,9 +46,11 @@ pub fn qprop_plain<S: Source, K: Sink>(
         FramesOutput (S.left source.old) (S.left source.new) (K.held sink.old) (K.held sink.new) }
     ensures made { (size : Size) → command_of (map string_bytes words.now) ≡ Some (Command.Make size) → result.status ≡ Status.Done →
         Appends (K.held sink.old) (K.held sink.new) (generated size.services size.changes size.start) }
-    ensures unread { (size : Size) → command_of (map string_bytes words.now) ≡ Some (Command.Make size) → source.new ≡ source.old }
+    ensures loaded { (size : Size) → command_of (map string_bytes words.now) ≡ Some (Command.Load size) → result.status ≡ Status.Done →
+        LoadedOutput size (K.held sink.old) (K.held sink.new) result.network }
+    ensures unread { (size : Size) → (command_of (map string_bytes words.now) ≡ Some (Command.Make size)) ⊎ (command_of (map string_bytes words.now) ≡ Some (Command.Load size)) → source.new ≡ source.old }
     ensures unasked { command_of (map string_bytes words.now) ≡ None → source.new ≡ source.old }
-    ensures network { IsSome result.network ↔ ((command_of (map string_bytes words.now) ≡ Some Command.Step) × (result.status ≡ Status.Done)) }
+    ensures network { IsSome result.network ↔ (RunsLegs (command_of (map string_bytes words.now)) × (result.status ≡ Status.Done)) }
     ensures refused { (refusal : Refusal) → result.status ≡ Status.Refused refusal →
         RefusedOutput (command_of (map string_bytes words.now)) (S.left source.old) (S.left source.new) (K.held sink.old) (K.held sink.new) refusal }
 
@@ -58,7 +62,7 @@ pub fn qprop_plain<S: Source, K: Sink>(
     ensures memory { result.status ≡ Status.OutOfMemory → Keeps (K.held sink.old) (K.held sink.new)
         ⊎ AddsDue (command_of (map string_bytes words.now)) (S.left source.old) (S.left source.new) (K.held sink.old) (K.held sink.new) }
 
-    // What is accepted is done, unless a source or a sink fails or memory is wanting.
+    // What is accepted is done, unless a source or a sink fails or memory runs out.
     ensures complete { (command : Command) (read : List ℕ) → command_of (map string_bytes words.now) ≡ Some command → S.left source.old ≡ Some read → IsAcceptedBy command read →
         ¬ (Rose (S.faults source.old) (S.faults source.new)) → ¬ (Rose (K.faults sink.old) (K.faults sink.new)) → (result.status ≡ Status.Done) ⊎ (result.status ≡ Status.OutOfMemory) }
 

@@ -18,9 +18,12 @@ change_count [] = 0
 change_count (leg ∷ legs) = length leg.changes + change_count legs
 
 -- the three counts of a document with these legs
+abbrev pub counts_text : List Leg → List ℕ
+counts_text legs = codes "services=" ++ number_text (service_count legs) ++ codes " changes=" ++ number_text (change_count legs) ++ codes " settles=" ++ number_text (length legs)
+
+-- the line with these counts
 abbrev pub accepted_line : List Leg → List ℕ
-accepted_line legs =
-    codes "accepted services=" ++ number_text (service_count legs) ++ codes " changes=" ++ number_text (change_count legs) ++ codes " settles=" ++ number_text (length legs) ++ codes "\n"
+accepted_line legs = codes "accepted " ++ counts_text legs ++ codes "\n"
 
 -- the source was read to its end, what it gave is a document with these legs, and its counts were added
 pub record CheckOutput (left_old left_new held_old held_new : Option (List ℕ)) : Type 0 where

@@ -1,19 +1,15 @@
 -- The command `frames`: the line of a frame.
-use Rattle.std.specs.Prelude.{ℕ, List, [], ◌∷◌, ◌++◌, flat_map, codes}
+use Rattle.std.specs.Prelude.{ℕ, List, [], ◌∷◌, ◌++◌, codes}
 use Rattle.svc_value.specs.Printed.{printed_value}
 use Rattle.wire_frame.specs.declared.frame.Frame.{Frame}
 use Rattle.wire_frame.specs.declared.frame.Frame.TheVariants.{Subscribe, Unsubscribe, Sources, Carried, Changed}
 use Rattle.wire_frame.specs.declared.place_clock.PlaceClock.{PlaceClock}
+use Rattle.trace_text.specs.Lines.{comma_list}
 use Rattle.qprop_cli.specs.Numbers.{number_text}
 
 -- a place and its clock
 abbrev pub place_text : PlaceClock → List ℕ
 place_text named = number_text named.place ++ codes ":" ++ number_text named.clock
-
--- the texts of the items, with a comma before each but the first
-abbrev pub comma_list : {X : Type 0} → (X → List ℕ) → List X → List ℕ
-comma_list text [] = []
-comma_list text (first ∷ others) = text first ++ flat_map (λ item. codes "," ++ text item) others
 
 -- the places with their clocks, or `-` for none
 abbrev pub places_text : List PlaceClock → List ℕ

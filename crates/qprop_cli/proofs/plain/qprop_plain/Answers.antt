@@ -3,21 +3,24 @@ use Rattle.std.specs.String.{string_bytes}
 use Rattle.document_reading.specs.declared.refusal.Refusal.{Refusal}
 use Rattle.command_words.specs.declared.command.Command.TheVariants as command
 use Rattle.command_words.specs.Words.{command_of}
-use Rattle.command_words.proofs.Sizes.{size_made}
+use Rattle.command_words.proofs.Sizes.{size_made, size_loaded}
 use Rattle.qprop_cli.specs.declared.outcome.Status.TheVariants.{Refused}
 use Rattle.qprop_cli.specs.Outcome.{RefusedOutput}
-use Rattle.qprop_cli.proofs.EndingLemmas.{refused_output, refusal_begun, keeps_behind, rose_later, performed, network_there, not_refused}
+use Rattle.qprop_cli.proofs.EndingLemmas.{refused_output, refusal_begun, keeps_behind, rose_later, performed, network_there, not_refused, asked_for}
 use Rattle.qprop_cli.proofs.plain.qprop_plain.Goals as goal
 
 pub perform-requires : goal.perform-requires
 perform-requires g c =
     let case = c.in-Ok-Some in
-    record { size = λ size is. size_made (map string_bytes c.args.words.now) size (sym case.ensures.command ∙ case.field-0-is ∙ ap Some is) }
+    record {
+      made = λ size is. size_made (map string_bytes c.args.words.now) size (sym case.ensures.command ∙ case.field-0-is ∙ ap Some is);
+      loaded = λ size is. size_loaded (map string_bytes c.args.words.now) size (sym case.ensures.command ∙ case.field-0-is ∙ ap Some is);
+    }
 
 pub returns-in-Ok-clause-settled : goal.returns-in-Ok-clause-settled
-returns-in-Ok-clause-settled g c = λ own done.
+returns-in-Ok-clause-settled g c = λ flags own done.
     let case = c.in-Ok-Some in
-    (performed (command_of (map string_bytes c.args.words.now)) case.command command.Step (g.S.Source.left c.args.source.now) (g.S.Source.left c.perform.new.source) (g.K.Sink.held c.args.sink.now) (g.K.Sink.held c.perform.new.sink)
+    (performed (command_of (map string_bytes c.args.words.now)) case.command (command.Step flags) (g.S.Source.left c.args.source.now) (g.S.Source.left c.perform.new.source) (g.K.Sink.held c.args.sink.now) (g.K.Sink.held c.perform.new.sink)
     c.in-Ok.network (sym case.field-0-is ∙ case.ensures.command) own (rw c.in-Ok.is at c.perform.ensures.ends.done)).0
 
 pub returns-in-Ok-clause-checked : goal.returns-in-Ok-clause-checked
@@ -43,6 +46,32 @@ returns-in-Ok-clause-made g c = λ size own done.
     let case = c.in-Ok-Some in
     (performed (command_of (map string_bytes c.args.words.now)) case.command (command.Make size) (g.S.Source.left c.args.source.now) (g.S.Source.left c.perform.new.source) (g.K.Sink.held c.args.sink.now) (g.K.Sink.held c.perform.new.sink)
     c.in-Ok.network (sym case.field-0-is ∙ case.ensures.command) own (rw c.in-Ok.is at c.perform.ensures.ends.done)).0
+
+pub returns-in-Ok-clause-loaded : goal.returns-in-Ok-clause-loaded
+returns-in-Ok-clause-loaded g c = λ size own done.
+    let case = c.in-Ok-Some in
+    (performed (command_of (map string_bytes c.args.words.now)) case.command (command.Load size) (g.S.Source.left c.args.source.now) (g.S.Source.left c.perform.new.source) (g.K.Sink.held c.args.sink.now) (g.K.Sink.held c.perform.new.sink)
+    c.in-Ok.network (sym case.field-0-is ∙ case.ensures.command) own (rw c.in-Ok.is at c.perform.ensures.ends.done)).0
+
+pub returns-in-Ok-clause-unread : goal.returns-in-Ok-clause-unread
+returns-in-Ok-clause-unread g c = λ size words.
+    let case = c.in-Ok-Some in
+    c.perform.ensures.unread size (asked_for (command_of (map string_bytes c.args.words.now)) case.command size (sym case.field-0-is ∙ case.ensures.command) words)
+
+pub returns-in-Err-ReadFault-clause-unread : goal.returns-in-Err-ReadFault-clause-unread
+returns-in-Err-ReadFault-clause-unread g c = λ size words.
+    let case = c.in-Ok-Some in
+    c.perform.ensures.unread size (asked_for (command_of (map string_bytes c.args.words.now)) case.command size (sym case.field-0-is ∙ case.ensures.command) words)
+
+pub returns-in-Err-WriteFault-clause-unread : goal.returns-in-Err-WriteFault-clause-unread
+returns-in-Err-WriteFault-clause-unread g c = λ size words.
+    let case = c.in-Ok-Some in
+    c.perform.ensures.unread size (asked_for (command_of (map string_bytes c.args.words.now)) case.command size (sym case.field-0-is ∙ case.ensures.command) words)
+
+pub returns-in-Err-OutOfMemory-clause-unread : goal.returns-in-Err-OutOfMemory-clause-unread
+returns-in-Err-OutOfMemory-clause-unread g c = λ size words.
+    let case = c.in-Ok-Some in
+    c.perform.ensures.unread size (asked_for (command_of (map string_bytes c.args.words.now)) case.command size (sym case.field-0-is ∙ case.ensures.command) words)
 
 pub returns-in-Ok-clause-network : goal.returns-in-Ok-clause-network
 returns-in-Ok-clause-network g c =

@@ -3,7 +3,8 @@ ghost use Rattle.std.specs.Prelude.{◌≤◌, ◌⊎◌, ◌≡◌, [], length,
 ghost use Rattle.std.specs.Io.KnownBytes.{Keeps};
 ghost use Rattle.svc_plan.specs.Rows.{rows_after, EachBorn, IsLegAfter, AreLegsAfter};
 ghost use Rattle.svc_value.specs.Causes.{Rose};
-ghost use Rattle.qprop_cli.specs.Inside.Blocks.{IsBlock, AddsBlock, BeginsBlock, AddsSettled, AddsBlocks};
+ghost use Rattle.trace_text.specs.Settled.{Settles};
+ghost use Rattle.qprop_cli.specs.Inside.Blocks.{IsBlock, AddsBlock, BeginsBlock, AddsText, BeginsText};
 
 use crate::io::writing::{WriteError, write_all};
 use central_eval::central;
@@ -48,8 +49,8 @@ fn write_leg<K: Sink>(
     requires born { EachBorn book.old }
     ensures rows { OnOk result (book.new ≡ rows_after book.old leg.now) }
     ensures born { OnOk result (EachBorn book.new) }
-    ensures added { OnOk result (AddsBlock (K.held sink.old) (K.held sink.new) k (rows_after book.old leg.now)) }
-    ensures begun { OnErr result ((Keeps (K.held sink.old) (K.held sink.new)) ⊎ BeginsBlock (K.held sink.old) (K.held sink.new) k (rows_after book.old leg.now)) }
+    ensures added { OnOk result (AddsBlock (IsBlock k (rows_after book.old leg.now)) (K.held sink.old) (K.held sink.new)) }
+    ensures begun { OnErr result ((Keeps (K.held sink.old) (K.held sink.new)) ⊎ BeginsBlock (IsBlock k (rows_after book.old leg.now)) (K.held sink.old) (K.held sink.new)) }
     ensures later { K.faults sink.old ≤ K.faults sink.new }
     ensures fault { IsErrOf result WriteError.Fault → Rose (K.faults sink.old) (K.faults sink.new) }
 {
@@ -67,8 +68,8 @@ pub(crate) fn evaluate_legs<K: Sink>(
 ) -> Result<(), WriteError>
     requires legs { AreLegsAfter [] legs.now }
     requires few { length legs.now ≤ MAX_LEGS }
-    ensures settled { OnOk result (AddsSettled (K.held sink.old) (K.held sink.new) legs.now) }
-    ensures begun { OnErr result (AddsBlocks (K.held sink.old) (K.held sink.new) legs.now) }
+    ensures settled { OnOk result (AddsText (Settles 0 []) (K.held sink.old) (K.held sink.new) legs.now) }
+    ensures begun { OnErr result (BeginsText (Settles 0 []) (K.held sink.old) (K.held sink.new) legs.now) }
     ensures later { K.faults sink.old ≤ K.faults sink.new }
     ensures fault { IsErrOf result WriteError.Fault → Rose (K.faults sink.old) (K.faults sink.new) }
 {

@@ -1,7 +1,8 @@
 // The line of a frame.
 ghost use Rattle.std.specs.Prelude.{◌≡◌, ◌++◌, codes, OnOk};
 ghost use Rattle.qprop_cli.specs.Numbers.{number_text};
-ghost use Rattle.qprop_cli.specs.Commands.FrameLine.{place_text, comma_list, places_text, frame_line};
+ghost use Rattle.qprop_cli.specs.Commands.FrameLine.{place_text, places_text, frame_line};
+ghost use Rattle.trace_text.specs.Lines.{comma_list};
 ghost use Rattle.svc_value.specs.Printed.{printed_value};
 
 use svc_value::{Clock, OutOfMemory, ServiceId, Value, print_value};

@@ -4,12 +4,13 @@ ghost use Rattle.std.specs.Io.KnownBytes.{Keeps};
 ghost use Rattle.settle_core.specs.Quiet.{is_quiet};
 ghost use Rattle.svc_plan.specs.Rows.{rows_after, IsLegAfter, AreLegsAfter};
 ghost use Rattle.svc_value.specs.Causes.{Rose};
-ghost use Rattle.qprop_cli.specs.Commands.Step.{HoldsCentral, HasRun, HasDone};
-ghost use Rattle.qprop_cli.specs.Inside.Blocks.{IsBlock, AddsBlock, BeginsBlock, AddsSettled, AddsBlocks};
-ghost use Rattle.qprop_cli.specs.Inside.StepLines.{AreNamed, EachNamed};
+ghost use Rattle.qprop_cli.specs.Commands.Step.{HoldsCentral, IsTracedText};
+ghost use Rattle.qprop_cli.specs.Inside.Blocks.{IsTracedBlock, AddsBlock, BeginsBlock, BeginsText, AddsTraced};
 
-use super::events::make_steps;
+use super::leg::run_leg;
+use super::traces::append_traces;
 use crate::io::writing::{WriteError, write_all};
+use command_words::TraceFlags;
 use settle_core::Network;
 use std::alloc::Global;
 use svc_plan::Leg;
@@ -17,30 +18,27 @@ use svc_value::limits::MAX_LEGS;
 use svc_value::{OutOfMemory, Sink};
 use trace_text::settled_text;
 
-/// Settles the leg number `k`, from 1: opens it, makes the events of its step lines, drains, and puts its block in place of `text`.
+/// Settles the leg number `k`, from 1, and puts its block, with the trace lines that are asked for, in place of `text`.
 #[tactic(auto, using(crate::proofs::CentralLemmas::values_length))]
 fn settle_leg(
     network: &mut Network,
     k: u32,
     leg: &Leg,
+    flags: TraceFlags,
     text: &mut Vec<u8>,
 ) -> Result<(), OutOfMemory>
     requires quiet { is_quiet network.old ≡ true }
     requires leg { IsLegAfter network.old.rows leg.now }
-    requires named { AreNamed (length (rows_after network.old.rows leg.now)) leg.now.steps }
     ensures rows { OnOk result (network.new.rows ≡ rows_after network.old.rows leg.now) }
     ensures quiet { OnOk result (is_quiet network.new ≡ true) }
     ensures holds { OnOk result (HoldsCentral network.new) }
-    ensures ran { OnOk result (HasRun network.old.rows leg.now network.new) }
-    ensures block { OnOk result (IsBlock k (rows_after network.old.rows leg.now) text.new.items) }
+    ensures block { OnOk result (IsTracedBlock flags k network.old.rows leg.now network.new text.new.items) }
 {
-    network.open_leg(leg)?;
-    make_steps(network, leg.steps.as_slice())?;
-    network.kept();
-    network.drain()?;
-    network.kept();
-    let values = network.values()?;
     text.clear();
+    run_leg(network, leg, flags.trace, text)?;
+    network.kept();
+    append_traces(network, flags, text)?;
+    let values = network.values()?;
     settled_text(k, network.book(), &values, text)
 }
 
@@ -49,46 +47,44 @@ fn write_leg<K: Sink>(
     network: &mut Network,
     k: u32,
     leg: &Leg,
+    flags: TraceFlags,
     text: &mut Vec<u8>,
     sink: &mut K,
 ) -> Result<(), WriteError>
     requires quiet { is_quiet network.old ≡ true }
     requires leg { IsLegAfter network.old.rows leg.now }
-    requires named { AreNamed (length (rows_after network.old.rows leg.now)) leg.now.steps }
     ensures rows { OnOk result (network.new.rows ≡ rows_after network.old.rows leg.now) }
     ensures quiet { OnOk result (is_quiet network.new ≡ true) }
     ensures holds { OnOk result (HoldsCentral network.new) }
-    ensures ran { OnOk result (HasRun network.old.rows leg.now network.new) }
-    ensures added { OnOk result (AddsBlock (K.held sink.old) (K.held sink.new) k (rows_after network.old.rows leg.now)) }
-    ensures begun { OnErr result ((Keeps (K.held sink.old) (K.held sink.new)) ⊎ BeginsBlock (K.held sink.old) (K.held sink.new) k (rows_after network.old.rows leg.now)) }
+    ensures added { OnOk result (AddsBlock (IsTracedBlock flags k network.old.rows leg.now network.new) (K.held sink.old) (K.held sink.new)) }
+    ensures begun { OnErr result ((Keeps (K.held sink.old) (K.held sink.new)) ⊎ BeginsBlock (IsTracedBlock flags k network.old.rows leg.now network.new) (K.held sink.old) (K.held sink.new)) }
     ensures later { K.faults sink.old ≤ K.faults sink.new }
     ensures fault { IsErrOf result WriteError.Fault → Rose (K.faults sink.old) (K.faults sink.new) }
 {
-    settle_leg(network, k, leg, text)?;
+    settle_leg(network, k, leg, flags, text)?;
     write_all(sink, text)?;
     Ok(())
 }
 
-/// Settles the legs, from the first one of a document on, and writes the block of each after it. What was written when it stops is
-/// a beginning of the blocks of the legs that were run.
+/// Settles the legs, from the first one of a document on, and writes the block of each after it, with the trace lines that are asked
+/// for. What was written when it stops is a beginning of the blocks of the legs that were run.
 pub(crate) fn settle_legs<K: Sink>(
     alloc: Global,
     legs: &[Leg],
+    flags: TraceFlags,
     sink: &mut K,
 ) -> Result<Network, WriteError>
     requires legs { AreLegsAfter [] legs.now }
-    requires named { EachNamed [] legs.now }
     requires few { length legs.now ≤ MAX_LEGS }
-    ensures settled { OnOk result (AddsSettled (K.held sink.old) (K.held sink.new) legs.now) }
-    ensures network { IfOk result (λ network. HasDone legs.now network) }
-    ensures begun { OnErr result (AddsBlocks (K.held sink.old) (K.held sink.new) legs.now) }
+    ensures settled { IfOk result (λ network. AddsTraced flags (K.held sink.old) (K.held sink.new) legs.now network) }
+    ensures begun { OnErr result (BeginsText (IsTracedText flags) (K.held sink.old) (K.held sink.new) legs.now) }
     ensures later { K.faults sink.old ≤ K.faults sink.new }
     ensures fault { IsErrOf result WriteError.Fault → Rose (K.faults sink.old) (K.faults sink.new) }
 {
     let mut network = Network::new(alloc);
     let mut text = Vec::new(alloc);
     for i in 0..legs.len() {
-        write_leg(&mut network, i as u32 + 1, &legs[i], &mut text, sink)?;
+        write_leg(&mut network, i as u32 + 1, &legs[i], flags, &mut text, sink)?;
     }
     Ok(network)
 }

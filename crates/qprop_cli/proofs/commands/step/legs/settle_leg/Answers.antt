@@ -1,12 +1,19 @@
-use Rattle.std.proofs.Common.{List, subst}
-use Rattle.svc_plan.specs.declared.plan.StepLine.{StepLine}
-use Rattle.qprop_cli.specs.Inside.StepLines.{HasStepped}
-use Rattle.qprop_cli.proofs.RunLemmas.{on_answer}
-use Rattle.qprop_cli.proofs.SteppedLemmas.{leg_run}
+use Rattle.std.proofs.Common.{◌≡◌, ◌∙◌, ◌++◌, sym, ap, subst, List, ℕ, []}
+use Rattle.svc_graph.specs.Central.{AreCentral}
+use Rattle.svc_graph.specs.History.{Row}
+use Rattle.svc_value.specs.declared.value.Value.{Value}
+use Rattle.trace_text.specs.Settled.{settled_block}
+use Rattle.qprop_cli.specs.Inside.StepLines.{RunsLeg}
+use Rattle.qprop_cli.proofs.RunLemmas.{if_answer}
+use Rattle.qprop_cli.proofs.TraceLemmas.{traced_block}
 use Rattle.qprop_cli.proofs.commands.step.legs.settle_leg.Goals as goal
 
-pub returns-clause-ran : goal.returns-clause-ran
-returns-clause-ran c =
-    let P : List StepLine → Type 0 = λ steps. HasStepped steps c.open_leg.new.self c.make_steps.new.network in
-    on_answer c.settled_text.result _ (leg_run c.args.network.now c.open_leg.new.self c.make_steps.new.network c.drain.new.self c.args.leg.now c.requires.leg c.in_ok-open_leg.ensures.ok
-    (subst P c.as_slice.ensures c.in_ok-make_steps.ensures) c.kept.ensures c.drain.ensures.goes c.kept-2.ensures c.in_ok-drain.ensures.quiet)
+pub returns-clause-block : goal.returns-clause-block
+returns-clause-block c =
+    let network = c.run_leg.new.network in
+    let P : List ℕ → Type 0 = λ text. RunsLeg c.args.flags.trace c.args.network.now.rows c.args.leg.now network text c.run_leg.new.out.items in
+    if_answer c.settled_text.result _ _ (λ block.
+    traced_block network c.kept.ensures c.in_ok-run_leg.ensures.quiet c.args.flags c.args.k c.args.network.now.rows c.args.leg.now c.in_ok-values.values.items
+    c.run_leg.new.out.items c.append_traces.new.out.items c.settled_text.new.out.items c.in_ok-run_leg.ensures.rows c.book.ensures.legal c.in_ok-values.ensures.central
+    (subst P c.clear.ensures.items c.in_ok-run_leg.ensures.ran) c.in_ok-append_traces.ensures
+    (block ∙ ap (λ (rs : List Row). c.append_traces.new.out.items ++ settled_block c.args.k rs c.deref.result.now) c.book.ensures.rows ∙ ap (λ (vs : List Value). c.append_traces.new.out.items ++ settled_block c.args.k network.rows vs) c.deref.ensures.value)) c.settled_text.ensures.ok

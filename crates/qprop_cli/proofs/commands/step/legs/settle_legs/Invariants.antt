@@ -1,10 +1,8 @@
 use Rattle.std.proofs.Common.{◌≤◌, take}
-use Rattle.qprop_cli.specs.Commands.Step.{HasDone}
-use Rattle.qprop_cli.specs.Inside.Blocks.{AddsSettled}
+use Rattle.qprop_cli.specs.Inside.Blocks.{AddsTraced}
 use Rattle.qprop_cli.proofs.commands.step.legs.settle_legs.Given as goal
 
 abbrev pub invariant-loop-i : goal.invariant-loop-i
 invariant-loop-i g l =
     (g.K.Sink.faults l.fn.sink ≤ g.K.Sink.faults l.sink) ×
-    HasDone (take l.i l.legs) l.network ×
-    AddsSettled (g.K.Sink.held l.fn.sink) (g.K.Sink.held l.sink) (take l.i l.legs)
+    AddsTraced l.flags (g.K.Sink.held l.fn.sink) (g.K.Sink.held l.sink) (take l.i l.legs) l.network

@@ -1,6 +1,6 @@
 use Rattle.std.proofs.Common.{[], ◌∙◌, ap₂, sym, arith, ◌+◌}
 use Rattle.qprop_cli.proofs.CountLemmas.{leg_few, services_next, changes_next}
-use Rattle.qprop_cli.proofs.commands.check.counts.counts.Goals as goal
+use Rattle.qprop_cli.proofs.commands.counts.counts.Goals as goal
 
 pub overflow_add-services : goal.overflow_add-services
 overflow_add-services c =

@@ -1,9 +1,8 @@
 // What an accepted document counts.
-ghost use Rattle.std.specs.Prelude.{◌≡◌, ◌≤◌, [], length, IfOk};
+ghost use Rattle.std.specs.Prelude.{◌≡◌, ◌≤◌, ◌++◌, [], length, OnOk};
 ghost use Rattle.svc_plan.specs.Rows.{AreLegsAfter};
-ghost use Rattle.qprop_cli.specs.Commands.Check.{accepted_line, change_count, service_count};
+ghost use Rattle.qprop_cli.specs.Commands.Check.{change_count, counts_text, service_count};
 
-use std::alloc::Global;
 use svc_plan::Leg;
 use svc_value::limits::MAX_LEGS;
 use svc_value::{OutOfMemory, Value, print_value};
@@ -25,19 +24,18 @@ fn counts(legs: &[Leg]) -> (u64, u64)
     (services, changes)
 }
 
-/// The line of a document with these legs, in memory of `alloc`.
-pub(crate) fn accepted_text(alloc: Global, legs: &[Leg]) -> Result<Vec<u8>, OutOfMemory>
+/// Appends the three counts of a document with these legs. After `OutOfMemory` a front of them may stand behind `out`.
+pub(crate) fn append_counts(legs: &[Leg], out: &mut Vec<u8>) -> Result<(), OutOfMemory>
     requires legs { AreLegsAfter [] legs.now }
     requires few { length legs.now ≤ MAX_LEGS }
-    ensures { IfOk result (λ text. text.items ≡ accepted_line legs.now) }
+    ensures { OnOk result (out.new.items ≡ out.old.items ++ counts_text legs.now) }
 {
     let (services, changes) = counts(legs);
-    let mut text = Vec::from_slice(alloc, b"accepted services=")?;
-    print_value(&Value::Int(services as i64), &mut text)?;
-    text.extend_from_slice(b" changes=")?;
-    print_value(&Value::Int(changes as i64), &mut text)?;
-    text.extend_from_slice(b" settles=")?;
-    print_value(&Value::Int(legs.len() as i64), &mut text)?;
-    text.extend_from_slice(b"\n")?;
-    Ok(text)
+    out.extend_from_slice(b"services=")?;
+    print_value(&Value::Int(services as i64), out)?;
+    out.extend_from_slice(b" changes=")?;
+    print_value(&Value::Int(changes as i64), out)?;
+    out.extend_from_slice(b" settles=")?;
+    print_value(&Value::Int(legs.len() as i64), out)?;
+    Ok(())
 }

@@ -1,6 +1,6 @@
 use Rattle.std.proofs.Common.{◌≤◌, ◌≡◌, ◌*◌, take}
 use Rattle.qprop_cli.specs.Commands.Check.{service_count, change_count}
-use Rattle.qprop_cli.proofs.commands.check.counts.counts.Given as goal
+use Rattle.qprop_cli.proofs.commands.counts.counts.Given as goal
 
 abbrev pub invariant-loop-leg : goal.invariant-loop-leg
 invariant-loop-leg l =
