@@ -1,5 +1,5 @@
 // What one node does in a network: it makes room in its links, does an event of its own, and hands over what it sent.
-ghost use Rattle.std.specs.Prelude.{◌≡◌, ◌≢◌, ◌↔◌, ◌+◌, ◌<◌, ◌≤◌, ◌==◌, if◌then◌else◌, ℕ, suc, [], ◌∷◌, ◌++◌, length, slice_get, option_map, IfOk, IfErr, OnOk, OnErr, IsTrue, Some};
+ghost use Rattle.std.specs.Prelude.{◌≡◌, ◌≢◌, ◌↔◌, ◌+◌, ◌<◌, ◌≤◌, ◌==◌, if◌then◌else◌, ℕ, suc, [], ◌∷◌, ◌++◌, length, slice_get, option_map, IfOk, IfErr, OnOk, OnErr, IsTrue, IsFalse, Some};
 ghost use Rattle.propagation.specs.Lists.{AreDistinct, Has};
 ghost use Rattle.service_machine.specs.States.{services};
 ghost use Rattle.service_machine.specs.Steps.{choice_of, after_changing, done_log, targets, after_turning as turned_in, turn_log};
@@ -90,6 +90,7 @@ pub(crate) fn do_next(
     requires { CanDo id node.old history.now (length links.old.items) }
     ensures acts { OnOk result (NodeActs id (after_changing dependencies node.old.state) (done_log dependencies node.old.state) node.old node.new (waiting_in links.old.items) (waiting_in links.new.items)) }
     ensures answer { IfOk result (λ is_done. IsTrue is_done ↔ (node.old.state.left ≢ [])) }
+    ensures idle { IfOk result (λ is_done. IsFalse is_done → (node.new ≡ node.old) × (waiting_in links.new.items ≡ waiting_in links.old.items)) }
     ensures err { OnErr result ((node.new ≡ node.old) × (waiting_in links.new.items ≡ waiting_in links.old.items)) }
 {
     if !node.has_change() {
@@ -122,6 +123,7 @@ pub(crate) fn take(
 ) -> Result<bool, OutOfMemory>
     requires { CanTake id sender node.old (waiting_in links.old.items) }
     ensures takes { IfOk result (TakesIn id sender node.old node.new (waiting_in links.old.items) (waiting_in links.new.items)) }
+    ensures idle { IfOk result (λ is_taken. IsFalse is_taken → (node.new ≡ node.old) × (waiting_in links.new.items ≡ waiting_in links.old.items)) }
     ensures err { OnErr result ((node.new ≡ node.old) × (waiting_in links.new.items ≡ waiting_in links.old.items)) }
 {
     reserve(links, sender, id)?;

@@ -60,7 +60,7 @@ returns-in_ok-is_done-in-Do-clause-happened c =
     let note = note_of c.of_change.result in
     let P : NetworkView → Type 0 = λ v. Happens (event_of c.args.event) note v new in
     let Q : Event → Type 0 = λ e. Happens (event_of e) note old new in
-    subst P c.self.view_is (subst Q (sym c.in-Do.is) (do_happens old new c.self.invariant refl c.in-Do.id note c.in_ok-is_done-in-Do.ensures.acts (c.of_change.ensures ∙ done_note state.left c.in_ok-is_done-in-Do.is_done c.in_ok-is_done-in-Do.ensures.answer)))
+    subst P c.self.view_is (subst Q (sym c.in-Do.is) (do_happens old new c.self.invariant refl c.in-Do.id note c.in_ok-is_done-in-Do.ensures.acts (c.of_change.ensures.note ∙ done_note state.left c.in_ok-is_done-in-Do.is_done c.in_ok-is_done-in-Do.ensures.answer)))
 
 pub take-requires-clause-can : goal.take-requires-clause-can
 take-requires-clause-can c =
@@ -91,5 +91,5 @@ returns-in_ok-is_taken-in-Take-clause-happened c =
     let P : NetworkView → Type 0 = λ v. Happens (event_of c.args.event) note v new in
     let Q : Event → Type 0 = λ e. Happens (event_of e) note old new in
     let N : Note → Type 0 = λ m. Happens (TheTake c.in-Take.reader c.in-Take.sender) m old new in
-    subst P c.self.view_is (subst Q (sym c.in-Take.is) (subst N (sym {A = Note} c.of_take.ensures)
+    subst P c.self.view_is (subst Q (sym c.in-Take.is) (subst N (sym {A = Note} c.of_take.ensures.note)
     (take_happens old new c.self.invariant refl c.in-Take.reader c.in-Take.sender declared.0 declared.1 takes.others takes.count c.in_ok-is_taken-in-Take.is_taken takes.node)))
