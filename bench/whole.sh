@@ -65,3 +65,18 @@ read -r thousand thousand_calls <<< "$(counts legs_1000 "$program" step)"
 row() { awk -v legs="$1" -v count="$2" -v run="$3" -v calls="$4" -v messages="$5" 'BEGIN { printf "| %s | %.0f | %.1f | %.1f |\n", legs, run / count, calls / count, messages / count }'; }
 row "2 to 100" 99 $((hundred - first)) $((hundred_calls - first_calls)) $(($(messages legs_100) - $(messages legs_1)))
 row "101 to 1,000" 900 $((thousand - hundred)) $((thousand_calls - hundred_calls)) $(($(messages legs_1000) - $(messages legs_100)))
+
+# What the trace lines cost: the instructions of a run with them less those of one without, beside the same of plain with logs.
+echo
+echo "| Document | Bytes of text | Instructions a byte | Of plain with logs |"
+echo "|---|---|---|---|"
+for name in chain diamonds legs_1000; do
+    cmp <("$program" step --trace < "$work/documents/$name.qprop") <("$anew" step --trace < "$work/documents/$name.qprop") >&2
+    bytes=$("$program" step --trace < "$work/documents/$name.qprop" | wc -c)
+    read -r run _ <<< "$(counts "$name" "$program" step)"
+    read -r traced _ <<< "$(counts "$name" "$program" step --trace)"
+    read -r logs _ <<< "$(counts "$name" "$anew" step --log)"
+    read -r traced_logs _ <<< "$(counts "$name" "$anew" step --trace)"
+    awk -v name="$name" -v bytes="$bytes" -v more=$((traced - run)) -v plain=$((traced_logs - logs)) 'BEGIN {
+        printf "| %s | %d | %.2f | %.2f |\n", name, bytes, more / bytes, more / plain }'
+done
