@@ -1,5 +1,5 @@
 -- What an entry says, read.
-use Rattle.std.proofs.Common.{◌≡◌, ◌≢◌, ◌∙◌, sym, ap, ap₂, refl, subst, ℕ, ◌<◌, ◌^◌, arith, List, [], ◌∷◌, ◌++◌, get_or, Option, Some, None}
+use Rattle.std.proofs.Common.{◌≡◌, ◌≢◌, ◌∙◌, sym, ap, ap₂, refl, subst, ℕ, ◌<◌, ◌^◌, arith, List, ◌∷◌, ◌++◌, get_or, Option, Some, None}
 use Rattle.std.specs.Fmt.{decimal}
 use Rattle.std.specs.Prelude.{codes}
 use Rattle.node_core.specs.declared.entry.Computation.{Computation}
@@ -12,7 +12,7 @@ use Rattle.trace_text.specs.Inside.Parts.{entry_word, entry_rest, IsEntryWith, R
 use Rattle.trace_text.specs.Lines.{frame_text, computation_text, entry_text, picks_text, stamps_text}
 use Rattle.trace_text.specs.Naming.{Naming, AreNamed}
 use Rattle.trace_text.specs.Reading.{ReadsAs}
-use Rattle.trace_text.proofs.OneLine.{IsPick, picks-lacks, stamps-lacks, one_word, one_computed, regrouped, with_word, picks_word, with-lacks, picks_word-lacks}
+use Rattle.trace_text.proofs.OneLine.{IsPick, picks-lacks, stamps-lacks, one_word, one_computed, regrouped, with_word, picks_word, picks_word-lacks}
 use Rattle.trace_text.proofs.Words.{each_of, has_stop, lacks_by, one_split}
 
 -- ---- computations

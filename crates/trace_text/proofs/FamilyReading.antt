@@ -1,15 +1,15 @@
 -- The logs of a block, read line by line.
-use Rattle.std.proofs.Common.{◌≡◌, ◌≢◌, ◌∙◌, sym, ap, ap₂, refl, subst, ℕ, zero, suc, ◌<◌, ◌≤◌, ◌+◌, ◌-◌, arith, Bool, true, false, not, cond, List, [], ◌∷◌, ◌++◌, append_assoc, append-nil, length, map, filter, drop, get_or, inl, inr, ◌⊎◌, Option, Some}
+use Rattle.std.proofs.Common.{◌≡◌, ◌≢◌, ◌∙◌, sym, ap, ap₂, refl, subst, ℕ, zero, suc, ◌<◌, ◌≤◌, ◌+◌, ◌-◌, arith, Bool, true, false, not, cond, List, [], ◌∷◌, ◌++◌, append_assoc, append-nil, length, map, drop, get_or, inl, inr, ◌⊎◌, Option, Some}
 use Rattle.std.specs.Prelude.{option_to_list}
-use Rattle.std.proofs.lemmas.List.{length-append, length-map, map-append}
+use Rattle.std.proofs.lemmas.List.{length-append, map-append}
 use Rattle.std.proofs.lemmas.List.Elements.{filter-append}
 use Rattle.node_core.specs.declared.entry.Entry.{Entry}
-use Rattle.trace_text.specs.Entries.{IsEntryOf, IsOwnedEntry, AreEntriesOf, IsFamilyOf}
+use Rattle.trace_text.specs.Entries.{IsEntryOf, IsOwnedEntry, AreEntriesOf}
 use Rattle.trace_text.specs.Inside.Cutting.{Lacks}
-use Rattle.trace_text.specs.Inside.Logs.{IsAppended, GoesOn, MayNotStand, ReadsLine}
+use Rattle.trace_text.specs.Inside.Logs.{GoesOn, MayNotStand, ReadsLine}
 use Rattle.trace_text.specs.Lines.{entry_line, entry_body}
 use Rattle.trace_text.specs.Naming.{Naming, AreNames}
-use Rattle.trace_text.specs.Reading.{owned_entries, family_entries, family_lines, is_ended, is_passed, log_lines, AreLinesOf, IsFirstWrong}
+use Rattle.trace_text.specs.Reading.{owned_entries, family_entries, is_ended, is_passed, log_lines, AreLinesOf, IsFirstWrong}
 use Rattle.trace_text.specs.Untraced.{lines_of}
 use Rattle.trace_text.proofs.LinesOf.{lines_line, lines_last}
 use Rattle.trace_text.proofs.ListReading.{all_of}

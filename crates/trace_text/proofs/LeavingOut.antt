@@ -1,11 +1,11 @@
 -- Trace lines are what is left out of an untraced text.
-use Rattle.std.proofs.Common.{◌≡◌, ◌∙◌, sym, ap, refl, ℕ, suc, ◌<◌, ◌≤◌, ◌+◌, arith, Bool, true, false, not, ◌==◌, ne_eqb, List, [], ◌∷◌, ◌++◌, append_assoc, length, flat_map, filter}
+use Rattle.std.proofs.Common.{◌≡◌, ◌∙◌, sym, ap, refl, ℕ, suc, ◌<◌, ◌≤◌, ◌+◌, arith, Bool, true, false, not, List, [], ◌∷◌, ◌++◌, append_assoc, length, flat_map, filter}
 use Rattle.std.specs.Fmt.{decimal}
 use Rattle.std.specs.Prelude.{codes, All}
 use Rattle.propagation.specs.Notes.{Note}
 use Rattle.propagation.specs.Notes.Note.{did, took, computed, advanced, empty, lags, still, idle}
 use Rattle.node_core.specs.declared.entry.Entry.{Entry}
-use Rattle.trace_text.specs.Untraced.{lines_of, is_traced, untraced}
+use Rattle.trace_text.specs.Untraced.{is_traced, untraced}
 use Rattle.trace_text.specs.Naming.{Naming, AreNamed}
 use Rattle.trace_text.specs.Lines.{comma_list, entry_text, entry_line, log_text, logs_text, family_text}
 use Rattle.trace_text.specs.Named.{NamesBelow}

@@ -1,5 +1,5 @@
 -- Lists with commas, read item by item.
-use Rattle.std.proofs.Common.{◌≡◌, ◌≢◌, ◌∙◌, sym, ap, subst, ℕ, zero, suc, ◌<◌, ◌^◌, arith, List, [], ◌∷◌, ◌++◌, length, Option, Some, None}
+use Rattle.std.proofs.Common.{◌≡◌, ◌≢◌, ◌∙◌, sym, ap, subst, ℕ, zero, suc, ◌<◌, arith, List, [], ◌∷◌, ◌++◌, length, Option, Some, None}
 use Rattle.std.specs.Prelude.{All}
 use Rattle.trace_text.specs.Entries.{ArePicks}
 use Rattle.trace_text.specs.Inside.Cutting.{Lacks, AreSomePicks}

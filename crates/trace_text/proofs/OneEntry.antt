@@ -1,5 +1,5 @@
 -- An entry is told by what stands behind the name, and a line by its bytes.
-use Rattle.std.proofs.Common.{◌≡◌, ◌≢◌, ap, refl, ℕ, ◌<◌, ◌^◌, arith, List, [], ◌∷◌, ◌++◌, length, get_or, drop}
+use Rattle.std.proofs.Common.{◌≡◌, ap, refl, ℕ, ◌<◌, arith, List, [], ◌∷◌, ◌++◌, length, get_or, drop}
 use Rattle.std.proofs.lemmas.Fmt.{decimal_injective}
 use Rattle.node_core.specs.declared.entry.Computation.{Computation}
 use Rattle.node_core.specs.declared.entry.Entry.{Entry}

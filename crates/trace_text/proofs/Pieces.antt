@@ -1,5 +1,5 @@
 -- What stands behind the name of a service, read with it.
-use Rattle.std.proofs.Common.{◌≡◌, ◌≢◌, ◌∙◌, sym, ap, ap₂, refl, subst, ℕ, ◌<◌, false, List, ◌∷◌, ◌++◌, Option, None, Some, IsUtf8}
+use Rattle.std.proofs.Common.{◌≡◌, ◌≢◌, ◌∙◌, sym, ap₂, subst, ℕ, ◌<◌, false, List, ◌∷◌, ◌++◌, Option, None, Some, IsUtf8}
 use Rattle.std.specs.Char.{is_ascii_alphabetic}
 use Rattle.svc_token.specs.Word.{is_word_byte}
 use Rattle.svc_value.specs.declared.value.Value.{Value}

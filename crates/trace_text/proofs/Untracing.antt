@@ -16,7 +16,7 @@ use Rattle.svc_value.specs.declared.value.Value.{Value}
 use Rattle.svc_value.specs.declared.value.Value.TheVariants.{Int}
 use Rattle.trace_text.specs.Names.{HaveNames}
 use Rattle.trace_text.specs.Settled.{value_line, value_lines, settle_line, settled_block, Settles}
-use Rattle.trace_text.specs.Untraced.{lines_of, is_traced, untraced}
+use Rattle.trace_text.specs.Untraced.{is_traced, untraced}
 use Rattle.trace_text.proofs.Inside.{Inside, Inside-append, by_test, printed_inside}
 use Rattle.trace_text.proofs.LinesOf.{lines_line}
 

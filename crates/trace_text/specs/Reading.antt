@@ -1,5 +1,5 @@
 -- What is read of the text of a block: the logs that its log lines say.
-use Rattle.std.specs.Prelude.{◌≡◌, ◌≢◌, ℕ, suc, Bool, true, false, not, ◌&&◌, ◌||◌, ◌==◌, nat_eq, filter, map, codes, List, [], ◌∷◌, ◌++◌, length, Option, Some, None}
+use Rattle.std.specs.Prelude.{◌≡◌, ◌≢◌, ℕ, suc, Bool, false, not, ◌&&◌, ◌||◌, ◌==◌, nat_eq, filter, map, codes, List, [], ◌∷◌, ◌++◌, length, Option, Some, None}
 use Rattle.std.specs.List.{starts_with}
 use Rattle.node_core.specs.declared.entry.Entry.{Entry}
 use Rattle.trace_text.specs.Entries.{IsFamilyOf}

@@ -28,14 +28,13 @@ pub(crate) fn append_hex(bytes: &[u8], out: &mut Vec<u8>) -> Result<(), OutOfMem
     Ok(())
 }
 
+// The digits in lower case.
+const DIGITS: [u8; 16] = *b"0123456789abcdef";
+
 // The digit in lower case.
 fn hex_digit(digit: u8) -> u8
     requires { digit < 16 }
     ensures { result ≡ digit_glyph false digit }
 {
-    if digit < 10 {
-        b'0' + digit
-    } else {
-        b'a' + (digit - 10)
-    }
+    DIGITS[usize::from(digit)]
 }

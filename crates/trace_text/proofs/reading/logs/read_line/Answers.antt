@@ -1,4 +1,4 @@
-use Rattle.std.proofs.Common.{arith, ◌∙◌, sym, refl, length, ℕ, inl, inr}
+use Rattle.std.proofs.Common.{arith, ◌∙◌, sym, refl, length, inl, inr}
 use Rattle.trace_text.specs.Entries.{IsOwnedEntry}
 use Rattle.trace_text.specs.Lines.{entry_body}
 use Rattle.trace_text.specs.Naming.{naming_of}
