@@ -107,7 +107,7 @@ room_gives form (Low high) room char given r h = let k = given_hex form high cha
 
 -- ---- what is read so far
 
-past_past : (a b : ℕ) (front more : List ℕ) (read : Read (List ℕ)) → past a front (past b more read) ≡ past (a + b) (front ++ more) read
+pub past_past : (a b : ℕ) (front more : List ℕ) (read : Read (List ℕ)) → past a front (past b more read) ≡ past (a + b) (front ++ more) read
 past_past a b front more (Ok read) =
     let e : a + (b + read.1) ≡ (a + b) + read.1 = omega arith in
     ap (λ t. Ok (t, a + (b + read.1))) (sym (append_assoc front more read.0)) ∙ ap (λ n. Ok ((front ++ more) ++ read.0, n)) e

@@ -1,5 +1,6 @@
 pub mod InsidePlaces
 pub mod InsideReading
+pub mod InsideRuns
 pub mod InsideSteps
 pub mod InsideStuck
 pub mod LiteralPlaces

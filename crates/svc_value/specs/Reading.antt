@@ -1,7 +1,9 @@
--- How literals and printed texts are read, a character at a time. The code answers what these functions do; no public clause speaks of them.
+-- How literals and printed texts are read, a character or a run of characters at a time. The code answers what these functions do; no public clause speaks of them.
 use Rattle.std.specs.Prelude.{◌≡◌, ℕ, ◌+◌, ◌-◌, ◌*◌, ◌^◌, ◌<◌, ◌≤◌, Bool, true, false, not, ◌&&◌, ◌||◌, ◌==◌, nat_lt, nat_le, if◌then◌else◌, List, [], ◌∷◌, ◌++◌, length, slice_index, Option, Some, None, Result, Ok, Err, ℤ, pos}
 use lib.IntN.{neg_ℤ}
 use Rattle.std.specs.Char.{digit_value, len_utf8, encode_utf8, is_ascii_digit}
+use Rattle.std.specs.List.{list_all}
+use Rattle.std.specs.Str.{IsUtf8}
 use Rattle.svc_value.specs.declared.inside.Form.{Form}
 use Rattle.svc_value.specs.declared.inside.Form.TheVariants.{Any, Printed}
 use Rattle.svc_value.specs.declared.inside.Inside.{Inside}
@@ -15,6 +17,7 @@ use Rattle.svc_value.specs.declared.value.Fault.TheVariants.{Overflow, Zero, Lon
 use Rattle.svc_value.specs.declared.value.Value.{Value}
 use Rattle.svc_value.specs.declared.value.Value.TheVariants.{Int, Words, Bad}
 use Rattle.svc_value.specs.Quoted.{is_itself, short_escape, hex_escape, IsQuoted}
+use Rattle.svc_value.specs.declared.limits.TheConstants.{MAX_TEXT_LEN}
 
 -- what is read and how many bytes it is, or how many bytes begin something
 abbrev pub Read : Type 0 → Type 0
@@ -107,6 +110,25 @@ HasRoom Plain room = Unit {0}
 HasRoom Escape room = 1 ≤ room
 HasRoom Hex room = 1 ≤ room
 HasRoom (Low high) room = 1 ≤ room
+
+-- no character of a run leads from this place: between characters each byte stands for itself, and elsewhere there is none
+abbrev pub StaysAt : Form → Inside → List ℕ → Type 0
+StaysAt form Open run = run ≡ []
+StaysAt form Plain run = list_all (is_itself form) run ≡ true
+StaysAt form Escape run = run ≡ []
+StaysAt form Hex run = run ≡ []
+StaysAt form (Low high) run = run ≡ []
+
+-- a run of so many bytes at the front of a text goes to the end of the words, and this is left of the text
+pub record Moves (form : Form) (inside : Inside) (words new text left : List ℕ) (count : ℕ) : Type 0 where
+  pub run : List ℕ
+  pub split : text ≡ run ++ left
+  pub added : new ≡ words ++ run
+  pub counted : count ≡ length run
+  pub fits : length run ≤ MAX_TEXT_LEN - length words
+  pub front : IsUtf8 run
+  pub back : IsUtf8 left
+  pub stays : StaysAt form inside run
 
 -- a whole number that a function returned is what reading gives, unless memory ran out
 abbrev pub GivesNumber : Result Value LiteralError → Result ℤ ℕ → Type 0

@@ -1,12 +1,15 @@
-// Quoted texts, read a character at a time.
-ghost use Rattle.std.specs.Prelude.{◌≡◌, ◌<◌, false};
-ghost use Rattle.std.specs.Str.{chars};
+// Quoted texts, read a character at a time, and runs of characters that stand for themselves as wholes.
+ghost use Rattle.std.specs.Prelude.{◌≡◌, ◌<◌, ◌≤◌, ◌+◌, true, false, length, take, IfOk};
+ghost use Rattle.std.specs.List.{list_all};
+ghost use Rattle.std.specs.Str.{chars, IsCharBoundary, IsUtf8};
+ghost use Rattle.std.specs.String.{string_bytes};
 ghost use Rattle.std.specs.Fmt.{digit_glyph};
-ghost use Rattle.svc_value.specs.Quoted.{is_itself, is_hexed, is_written, hex_escape};
-ghost use Rattle.svc_value.specs.Reading.{Gives, may_lead, next_step, inside_at};
+ghost use Rattle.svc_value.specs.Quoted.{any_form, is_itself, is_hexed, is_written, hex_escape};
+ghost use Rattle.svc_value.specs.Reading.{Gives, may_lead, next_step, inside_at, StaysAt, Moves};
 
 use crate::{LiteralError, MAX_TEXT_LEN, ValueText};
-use std::alloc::Global;
+use memchr::memchr3;
+use std::alloc::{AllocError, Global};
 
 /// Which forms of quoted texts and numbers are read.
 #[derive(Clone, Copy, Debug, PartialEq, Eq)]
@@ -68,8 +71,59 @@ pub(crate) fn read_quoted(
             }
         }
         at += char.len_utf8();
+        let (left, count) = behind_run(form, inside, &mut words, rest.as_str())?;
+        at += count;
+        rest = left.chars();
     }
     Err(LiteralError::Bad { place: at })
+}
+
+// Moves the characters at the front that stand for themselves at this place to the end of `words`, where all of them
+// fit; what is behind them, and how many bytes they are.
+fn behind_run<'a>(
+    form: Form,
+    inside: Inside,
+    words: &mut String,
+    text: &'a str,
+) -> Result<(&'a str, usize), AllocError>
+    ensures moved { IfOk result (λ x. Moves form inside (string_bytes words.old) (string_bytes words.new) text.now x.0.now x.1) }
+    ensures counted { IfOk result (λ x. x.1 + length x.0.now ≡ length text.now) }
+{
+    let room = MAX_TEXT_LEN.saturating_sub(words.len());
+    let count = run_len(form, inside, room, text.as_bytes());
+    let (run, left) = text.split_at(count);
+    words.push_str(run)?;
+    Ok((left, count))
+}
+
+// How many bytes at the front stand for themselves at this place; 0 where there is no `room` for them.
+fn run_len(form: Form, inside: Inside, room: usize, text: &[u8]) -> usize
+    requires { IsUtf8 text.now }
+    ensures fits { result ≤ room }
+    ensures boundary { IsCharBoundary text.now result }
+    ensures stays { StaysAt form inside (take result text.now) }
+{
+    match inside {
+        Inside::Plain => match form {
+            Form::Any => {
+                let len = plain_len(text);
+                if len <= room { len } else { 0 }
+            }
+            Form::Printed => 0,
+        },
+        Inside::Open | Inside::Escape | Inside::Hex | Inside::Low(_) => 0,
+    }
+}
+
+// How many bytes stand before the first that does not stand for itself in a literal.
+fn plain_len(text: &[u8]) -> usize
+    ensures boundary { IsCharBoundary text.now result }
+    ensures plain { list_all (is_itself any_form) (take result text.now) ≡ true }
+{
+    match memchr3(b'"', b'\\', b'\n', text) {
+        Some(len) => len,
+        None => text.len(),
+    }
 }
 
 // What a character does at a place, where the meaning may have `room` bytes more.
