@@ -1,5 +1,5 @@
 -- How a text is cut into tokens: the longest that fits first, with blanks between them.
-use Rattle.std.specs.Prelude.{◌≡◌, ℕ, ◌+◌, min, Bool, true, false, ◌==◌, ◌||◌, nat_le, if◌then◌else◌, List, [], ◌∷◌, length, drop, take, Option, Some, None, option_map}
+use Rattle.std.specs.Prelude.{◌≡◌, ◌⊎◌, ℕ, ◌+◌, min, Bool, true, false, ◌==◌, ◌||◌, nat_le, if◌then◌else◌, List, [], ◌∷◌, length, drop, take, Option, Some, None, option_map}
 use Rattle.std.specs.List.{take_while}
 use Rattle.std.specs.Char.{is_ascii_digit, is_ascii_alphabetic}
 use Rattle.svc_token.specs.declared.keyword.Keyword.{Keyword}
@@ -42,6 +42,11 @@ closing n escaped [] = None
 closing n escaped (b ∷ bs) =
     if escaped then closing (n + 1) false bs
     else (if b == 34 then Some (n + 1) else closing (n + 1) (b == 92) bs)
+
+-- there are no bytes, or the first is a quote or a backslash
+abbrev pub StopsOrEnds : List ℕ → Type 0
+StopsOrEnds [] = Unit {0}
+StopsOrEnds (b ∷ bs) = (b ≡ 34) ⊎ (b ≡ 92)
 
 -- a quoted text, from quote to quote
 unfoldable pub quoted_at : List ℕ → Front

@@ -1,16 +1,17 @@
 // A text is cut into tokens.
-ghost use Rattle.std.specs.Prelude.{◌≡◌, ◌<◌, ◌≤◌, ◌+◌, false, true, min, length, take, ℕ, List, OnOk, IsSome, IfSome, Option, Some, None, option_map};
+ghost use Rattle.std.specs.Prelude.{◌≡◌, ◌<◌, ◌≤◌, ◌+◌, false, true, min, length, take, drop, ℕ, List, OnOk, IsSome, IfSome, Option, Some, None, option_map};
 ghost use Rattle.std.specs.Result.{IsErrOf};
 ghost use Rattle.std.specs.List.{take_while};
 ghost use Rattle.std.specs.Char.{is_ascii_digit};
 ghost use Rattle.svc_token.specs.declared.token.Token.{Token};
 ghost use Rattle.svc_token.specs.Word.{is_word, is_word_byte, decimal_value};
-ghost use Rattle.svc_token.specs.Cutting.{is_blank, word_token, number_at, closing, quoted_at, long_mark_at, short_mark_at, mark_at, front, Cuts};
+ghost use Rattle.svc_token.specs.Cutting.{is_blank, word_token, number_at, closing, StopsOrEnds, quoted_at, long_mark_at, short_mark_at, mark_at, front, Cuts};
 
 use crate::keyword::spelled_keyword;
 use crate::mark::mark;
 use crate::token::{MAX_NAME_LEN, is_word_byte};
 use crate::{BytesRef, NameRef, Token};
+use memchr::memchr2;
 use std::alloc::AllocFailed;
 
 /// Why a text was not cut.
@@ -101,20 +102,36 @@ fn number(text: &[u8], len: usize) -> Option<(Token<'_>, usize)>
     Some((Token::Number(value(digits)), len))
 }
 
+// How many bytes stand before the first quote or backslash.
+fn plain_len(bytes: &[u8]) -> usize
+    ensures fits { result ≤ length bytes.now }
+    ensures passed { (n : ℕ) → closing n false bytes.now ≡ closing (n + result) false (drop result bytes.now) }
+    ensures stops { StopsOrEnds (drop result bytes.now) }
+{
+    match memchr2(b'"', b'\\', bytes) {
+        Some(len) => len,
+        None => bytes.len(),
+    }
+}
+
 // How many bytes a quoted text has that goes on with these, the opening quote among them.
 fn quoted_len(rest: &[u8]) -> Option<usize>
     ensures what { result ≡ closing 1 false rest.now }
     ensures fits { IfSome result (λ n. n ≤ length rest.now + 1) }
     ensures some { IfSome result (λ n. 0 < n) }
 {
-    let mut escaped = false;
-    for (i, b) in rest.iter().enumerate() {
-        if escaped {
-            escaped = false;
-        } else if *b == b'"' {
-            return Some(i + 2);
-        } else {
-            escaped = *b == b'\\';
+    let mut left = rest;
+    let mut len = 1;
+    while !left.is_empty() {
+        let (plain, stop) = left.split_at(plain_len(left));
+        len += plain.len();
+        match stop {
+            [b'"', ..] => return Some(len + 1),
+            [_, _, behind @ ..] => {
+                len += 2;
+                left = behind;
+            }
+            _ => return None,
         }
     }
     None
