@@ -46,6 +46,19 @@ greatest-within F [] i q lt = absurd (omega arith)
 greatest-within F (h ∷ hs) zero q lt = omega arith
 greatest-within F (h ∷ hs) (suc i) q lt = let rest : clock_in (slice_index_or hs i None) q ≤ greatest F hs q = greatest-within F hs i q (omega arith) in omega arith
 
+-- a floor that no head is above has the greatest clocks
+pub greatest-above : (F : Stamps) (hs : List (Option Stamps)) (q : ℕ) → ((i : ℕ) → i < length hs → clock_in (slice_index_or hs i None) q ≤ clock_of F q) → clock_of F q ≡ greatest F hs q
+greatest-above F [] q within = refl
+greatest-above F (h ∷ hs) q within =
+    let own : clock_in h q ≤ clock_of F q = within zero (omega arith) in
+    let rest : clock_of F q ≡ greatest F hs q = greatest-above F hs q (λ i lt. within (suc i) (omega arith)) in
+    omega arith
+
+-- a floor beside the greatest clocks of another one and the heads
+pub greatest-beside : (F G : Stamps) (hs : List (Option Stamps)) (q : ℕ) → max (clock_of F q) (greatest G hs q) ≡ max (greatest F hs q) (clock_of G q)
+greatest-beside F G [] q = refl
+greatest-beside F G (h ∷ hs) q = let rest : max (clock_of F q) (greatest G hs q) ≡ max (greatest F hs q) (clock_of G q) = greatest-beside F G hs q in omega arith
+
 -- another head in the place of one
 greatest-set : (F : Stamps) (hs : List (Option Stamps)) (i : ℕ) (h : Option Stamps) (q : ℕ) → greatest F (set hs i h) q ≤ max (greatest F hs q) (clock_in h q)
 greatest-set F [] i h q = omega arith

@@ -6,7 +6,7 @@ use Rattle.std.proofs.lemmas.Bool.Decides.{nat_tests}
 use Rattle.propagation.specs.Stamps.{Stamps, clock_of, IsRising}
 use Rattle.service_machine.specs.States.{raise_one}
 use Rattle.service_machine.specs.Turning.{lag}
-use Rattle.service_machine.proofs.Raising.{clock-this, clock-other, raise-clock, raise-rising}
+use Rattle.service_machine.proofs.Raising.{clock-this, clock-other, raise-clock, raise-rising, rising-same}
 use Rattle.service_machine.proofs.Table.{lag-none}
 use Rattle.stamp_match.specs.Kept.{clock_in, lags, IsRisingHead, IsFollowed}
 
@@ -14,10 +14,6 @@ use Rattle.stamp_match.specs.Kept.{clock_in, lags, IsRisingHead, IsFollowed}
 pub lag-same : (T R S : Stamps) → ((q : ℕ) → clock_of T q ≡ clock_of R q) → lag T S ≡ lag R S
 lag-same T R [] same = refl
 lag-same T R (x ∷ rest) same = ap₂ (λ (b : Bool) (o : Option ℕ). if b then Some x.0 else o) (ap (ltb x.1) (same x.0)) (lag-same T R rest same)
-
-pub lags-same : (T R : Stamps) (head : Option Stamps) → ((q : ℕ) → clock_of T q ≡ clock_of R q) → lags T head ≡ lags R head
-lags-same T R None same = refl
-lags-same T R (Some S) same = ap is_some (lag-same T R S same)
 
 -- the clock of a key that is not there may change
 pub lag-without : (T R : Stamps) (k least : ℕ) (S : Stamps) → IsRising least S → clock_of S k ≡ 0 → ((q : ℕ) → (k ≡ q → ⊥) → clock_of T q ≡ clock_of R q) → lag T S ≡ lag R S
@@ -54,6 +50,9 @@ module _ (T : Stamps) (k c : ℕ) (rising : IsRising 0 T) (pos : 0 < c) where
         | inr ne ↦ one-other q ne
       ]
 
+  pub one-kept : c ≤ clock_of T k → T ≡ raise_one T k c
+  one-kept le = rising-same 0 0 T (raise_one T k c) rising one-rising (one-same le)
+
   -- a head that has the key lags then, and another does where it did
   pub flag-raised_clocks : (head : Option Stamps) → clock_of T k < c → IsRisingHead head → clock_in head k ≤ clock_of T k → (lags T head || nat_lt 0 (clock_in head k)) ≡ lags (raise_one T k c) head
   flag-raised_clocks None lt r within = refl
@@ -77,11 +76,4 @@ module _ (T : Stamps) (k c : ℕ) (rising : IsRising 0 T) (pos : 0 < c) where
     rising = h.rising;
     within = λ q. let a : clock_in head q ≤ clock_of T q = h.within q in let b : clock_of T q ≤ clock_of (raise_one T k c) q = one-within q in omega arith;
     flag = is ∙ ap (λ b. b || nat_lt 0 (clock_in head k)) h.flag ∙ flag-raised_clocks head lt h.rising (h.within k);
-  }
-
-  pub followed-same : (flag : Bool) (head : Option Stamps) → c ≤ clock_of T k → IsFollowed T flag head → IsFollowed (raise_one T k c) flag head
-  followed-same flag head le h = record {
-    rising = h.rising;
-    within = λ q. let a : clock_in head q ≤ clock_of T q = h.within q in let b : clock_of T q ≤ clock_of (raise_one T k c) q = one-within q in omega arith;
-    flag = h.flag ∙ lags-same T (raise_one T k c) head (one-same le);
   }

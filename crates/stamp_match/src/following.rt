@@ -35,7 +35,7 @@ fn mark(lagging: &mut [bool], slots: &[Slot], key: ServiceId)
 }
 
 // A key has at least this clock: where its greatest clock rises, the heads that have the key lag.
-fn raise_key(
+pub(crate) fn raise_key(
     greatest_clocks: &mut Floor,
     lagging: &mut [bool],
     slots: &[Slot],
@@ -52,9 +52,10 @@ fn raise_key(
         IsFollowed greatest_clocks.old (slice_index_or lagging.old place false) (slice_index_or (head_stamps slots.now) place None) →
         IsFollowed greatest_clocks.new (slice_index_or lagging.new place false) (slice_index_or (head_stamps slots.now) place None) }
 {
-    if is_above(greatest_clocks, key, clock) {
-        mark(lagging, slots, key);
+    if !is_above(greatest_clocks, key, clock) {
+        return;
     }
+    mark(lagging, slots, key);
     greatest_clocks.raise_one(key, clock);
 }
 

@@ -1,8 +1,8 @@
 // What the turn table looks for, kept up to date.
-ghost use Rattle.std.specs.Prelude.{◌≡◌, ◌+◌, ◌-◌, ◌*◌, ◌^◌, ◌<◌, ◌≤◌, ◌⊎◌, true, None, Some, [], length, take, slice_index_or, slice_set, IfSome, IfNone};
+ghost use Rattle.std.specs.Prelude.{◌≡◌, ◌+◌, ◌-◌, ◌*◌, ◌^◌, ◌<◌, ◌≤◌, ◌⊎◌, true, None, Some, [], ◌∷◌, length, take, slice_index_or, slice_set, IfSome, IfNone};
 ghost use Rattle.propagation.specs.Stamps.{IsRising};
-ghost use Rattle.service_machine.specs.States.{has_next, advanced, number_at_head, raise as raised};
-ghost use Rattle.service_machine.specs.Turning.{choice as chosen, head_lag, lagging as first_that_lags, greatest_clocks as greatest};
+ghost use Rattle.service_machine.specs.States.{has_next, advanced, number_at_head, raise as raised, raise_all};
+ghost use Rattle.service_machine.specs.Turning.{choice as chosen, head_lag, heads, lagging as first_that_lags, greatest_clocks as greatest};
 ghost use Rattle.pred_queue.specs.Capped.{capped};
 ghost use Rattle.stamp_match.specs.Falling.{AreReached, NoneFalls};
 ghost use Rattle.stamp_match.specs.Kept.{IsMatcherOf, IsKept, head_stamps, slot_in};
@@ -11,7 +11,7 @@ ghost use Rattle.stamp_match.specs.Named.{turn_of, IsAmong};
 ghost use Rattle.stamp_match.specs.Moved.{IsRaised, IsMoved, Leads};
 
 use crate::Choice;
-use crate::following::{flags, head_lags, raise_keys};
+use crate::following::{flags, head_lags, raise_key, raise_keys};
 use crate::held::{falls_at, held_at};
 use crate::slots::{first_headless, first_waiting, greatest_clocks};
 use crate::walk::first_lag;
@@ -19,8 +19,8 @@ use pred_queue::Slot;
 use stamp_clock::{Floor, KeySet, Stamps};
 use std::marker::Brand;
 use std::sync::ledger::{Blank, Ledger};
-use svc_value::limits::MAX_DEPENDENCIES;
-use svc_value::{ServiceId, Steps};
+use svc_value::limits::{MAX_DEPENDENCIES, MAX_SERVICES};
+use svc_value::{Clock, ServiceId, Steps};
 
 /// What `choose` finds among at most 16 slots, kept up to date: for each key the greatest clock of the floor and of the heads,
 /// and which heads lag. It rests on the floor and on the stamps of the heads alone, and holds no memory of its own.
@@ -161,6 +161,35 @@ impl Matcher {
             stamps,
             looks,
         );
+    }
+
+    /// The floor takes the clocks of all heads, and for the service `id`, below 64, `clock`, at least 1: it is raised by the
+    /// union of their stamps with that clock. The matcher, which is that of the slots and the floor, is so again. It takes one
+    /// look, and no memory.
+    pub fn raise_over_heads<L: Ledger>(
+        &mut self,
+        floor: &mut Floor,
+        id: ServiceId,
+        clock: Clock,
+        slots: &[Slot],
+        looks: &mut Steps<L>,
+    )
+        requires matcher { IsMatcherOf slots.now floor.old self.old }
+        requires below { id < MAX_SERVICES }
+        requires positive { 0 < clock }
+        ensures matcher { IsMatcherOf slots.now floor.new self.new }
+        ensures floor { floor.new ≡ raised floor.old (raise_all ((id, clock) ∷ []) (heads slots.now)) }
+        ensures looks { looks.new ≡ looks.old + 1 }
+    {
+        looks.tick();
+        raise_key(
+            &mut self.greatest_clocks,
+            &mut self.lagging,
+            slots,
+            id,
+            clock,
+        );
+        *floor = self.greatest_clocks;
     }
 
     // Takes the clocks of the head at a place.
