@@ -1,5 +1,5 @@
 -- Slots by their senders and by their places.
-use Rattle.std.proofs.Common.{◌≡◌, ℕ, zero, suc, ◌<◌, ◌==◌, ◌++◌, Bool, true, false, cond, List, [], ◌∷◌, length, take, drop, slice_index_or, slice_set, refl, sym, ap, subst, ◌∙◌, arith, eqb-true, inl, inr, eq-eqb, Option, Some, None}
+use Rattle.std.proofs.Common.{◌≡◌, ℕ, zero, suc, ◌+◌, ◌<◌, ◌≤◌, ◌==◌, ◌++◌, Bool, true, false, cond, List, [], ◌∷◌, length, take, drop, slice_index_or, slice_set, refl, sym, ap, subst, ◌∙◌, arith, eqb-true, inl, inr, eq-eqb, Option, Some, None}
 use Rattle.node_core.specs.declared.entry.Entry.{Entry}
 use Rattle.std.proofs.lemmas.Bool.{cond-true}
 use Rattle.propagation.specs.Lists.{AreDistinct, Has}
@@ -80,6 +80,18 @@ pub counted_open : {V : Type 0} (entries : List Entry) (slots : List (Slot V)) �
 counted_open entries slots was k s lt =
     let one = first_number slots k s lt in
     rw (one.0, one.1) (omega (arith, was k s one.2))
+
+-- without entries each head is the one with the number 0
+pub begun_already : {V : Type 0} (entries : List Entry) (slots : List (Slot V)) → length entries ≡ 0 → AreCounted entries slots → slots ≡ first_slots slots
+begun_already entries [] none was = refl
+begun_already {V} entries (x ∷ rest) none was =
+    let first : number_at_head x.head + length x.queue ≤ length entries = was 0 x (omega arith) in
+    let same : x ≡ first_slot x = (λ i. record x { head = go x.head (omega arith) i }) in
+    (λ i. same i ∷ begun_already entries rest none (λ k s lt. was (suc k) s (omega (arith, lt))) i)
+  where
+    go : (h : Option (Head V)) → number_at_head h ≡ 0 → h ≡ first_head h
+    go None none = refl
+    go (Some h) none = (λ i. Some (record h { number = none i }))
 
 -- where nothing waits the slots are counted with no entries
 pub counted_close : {V : Type 0} (slots : List (Slot V)) → AreDistinct (senders slots) → ((p : ℕ) → (slot_at slots p).queue ≡ []) → AreCounted [] (first_slots slots)

@@ -6,8 +6,9 @@ ghost use Rattle.service_machine.specs.States.{advanced, has_next, raise, slot_a
 ghost use Rattle.service_machine.specs.Openings.{first_slots};
 ghost use Rattle.service_machine.specs.Turning.{slots_of};
 ghost use Rattle.stamp_match.specs.Kept.{IsMatcherOf, slot_in};
-ghost use Rattle.node_core.specs.View.{senders, AreInOrder};
+ghost use Rattle.node_core.specs.View.{senders, AreCounted, AreInOrder};
 
+use crate::Entry;
 use pred_queue::{Emission, Slot};
 use rewire_core::Edges;
 use stamp_clock::Floor;
@@ -15,11 +16,15 @@ use stamp_match::Matcher;
 use std::sync::ledger::Ledger;
 use svc_value::Steps;
 
-// A leg begins: each head is the one with the number 0.
+// A leg begins or ends, with these entries: each head is the one with the number 0. Without entries it is so already.
 #[tactic(auto, using(crate::proofs::SlotLemmas::begun_next))]
-pub(crate) fn begin_all(slots: &mut Vec<Slot>)
+pub(crate) fn begin_all(slots: &mut Vec<Slot>, entries: &[Entry])
+    requires { AreCounted entries.now slots.old.items }
     ensures { slots.new.items ≡ first_slots slots.old.items }
 {
+    if entries.is_empty() {
+        return;
+    }
     for i in 0..slots.len() {
         let slot = &mut slots[i];
         slot.begin_leg();

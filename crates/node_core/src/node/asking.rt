@@ -82,7 +82,7 @@ impl Node {
         requires clock { self.old.state.own + length changes.items ≤ MAX_CLOCK }
         ensures { self.new ≡ record self.old { state = opened_with (coming self.old.state.definition changes.items) self.old.state; roster = roster; changes = changes.items } }
     {
-        begin_all(&mut self.slots);
+        begin_all(&mut self.slots, self.journal.entries());
         self.roster = roster;
         self.changes = changes;
         self.done = 0;
@@ -97,7 +97,7 @@ impl Node {
         requires clock { self.old.state.own + length changes.items ≤ MAX_CLOCK }
         ensures { self.new ≡ record self.old { state = opened_with (coming self.old.state.definition changes.items) self.old.state; changes = changes.items } }
     {
-        begin_all(&mut self.slots);
+        begin_all(&mut self.slots, self.journal.entries());
         self.changes = changes;
         self.done = 0;
     }
