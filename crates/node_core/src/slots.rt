@@ -1,20 +1,21 @@
 // The slots of a node.
-ghost use Rattle.std.specs.Prelude.{◌≡◌, ◌+◌, ◌<◌, ◌≤◌, ◌↔◌, ℕ, [], true, length, take, slice_set, IsTrue};
+ghost use Rattle.std.specs.Prelude.{◌≡◌, ◌+◌, ◌<◌, ◌≤◌, ◌↔◌, ℕ, [], ◌∷◌, true, length, take, slice_set, IsTrue};
 ghost use Rattle.pred_queue.specs.Capped.{capped};
 ghost use Rattle.propagation.specs.Lists.{AreDistinct};
-ghost use Rattle.service_machine.specs.States.{advanced, has_next, raise, slot_at};
+ghost use Rattle.service_machine.specs.States.{advanced, has_next, raise, raise_all, slot_at};
 ghost use Rattle.service_machine.specs.Openings.{first_slots};
-ghost use Rattle.service_machine.specs.Turning.{slots_of};
+ghost use Rattle.service_machine.specs.Turning.{heads, slots_of};
 ghost use Rattle.stamp_match.specs.Kept.{IsMatcherOf, slot_in};
 ghost use Rattle.node_core.specs.View.{senders, AreCounted, AreInOrder};
 
 use crate::Entry;
-use pred_queue::{Emission, Slot};
+use pred_queue::Slot;
 use rewire_core::Edges;
 use stamp_clock::Floor;
 use stamp_match::Matcher;
 use std::sync::ledger::Ledger;
-use svc_value::Steps;
+use svc_value::limits::MAX_SERVICES;
+use svc_value::{Clock, ServiceId, Steps};
 
 // A leg begins or ends, with these entries: each head is the one with the number 0. Without entries it is so already.
 #[tactic(auto, using(crate::proofs::SlotLemmas::begun_next))]
@@ -76,17 +77,21 @@ pub(crate) fn advance_at<M: Ledger, L: Ledger>(
     matcher.advance(slots.as_mut_slice(), count, place, floor, moves, looks);
 }
 
-// The floor takes the stamps of an emission; the matcher is that of the slots and the floor, as before.
-pub(crate) fn raise_by<L: Ledger>(
+// The floor takes the stamps of what a service of this number and clock emits over the heads; the matcher is that of the slots
+// and the floor, as before.
+pub(crate) fn raise_over<L: Ledger>(
     matcher: &mut Matcher,
     floor: &mut Floor,
-    emission: &Emission,
+    id: ServiceId,
+    own: Clock,
     slots: &[Slot],
     looks: &mut Steps<L>,
 )
-    requires { IsMatcherOf slots.now floor.old matcher.old }
+    requires matcher { IsMatcherOf slots.now floor.old matcher.old }
+    requires below { id < MAX_SERVICES }
+    requires positive { 0 < own }
     ensures matcher { IsMatcherOf slots.now floor.new matcher.new }
-    ensures raised { floor.new ≡ raise floor.old emission.now.stamps }
+    ensures raised { floor.new ≡ raise floor.old (raise_all ((id, own) ∷ []) (heads slots.now)) }
 {
-    matcher.raise(floor, &emission.stamps, slots, looks);
+    matcher.raise_over_heads(floor, id, own, slots, looks);
 }

@@ -7,7 +7,7 @@ ghost use Rattle.svc_graph.specs.History.{meaning_of};
 
 use super::Node;
 use crate::computing::{computation_of, emission_over};
-use crate::slots::{advance_at, inputs_of, raise_by};
+use crate::slots::{advance_at, inputs_of, raise_over};
 use crate::telling::tell_all;
 use crate::{Entry, Turned};
 use stamp_match::Choice;
@@ -42,7 +42,7 @@ impl Node {
         self.due = false;
         let inputs = inputs_of(&self.edges, self.slots.as_slice());
         let (matcher, floor) = (&mut self.matcher, &mut self.floor);
-        raise_by(matcher, floor, &emission, inputs, looks);
+        raise_over(matcher, floor, self.id, self.own, inputs, looks);
         let last = mem::replace(&mut self.last, Some(emission));
         scratch.keep_stamps(last);
         Ok(())

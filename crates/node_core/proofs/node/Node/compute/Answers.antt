@@ -1,9 +1,9 @@
-use Rattle.std.proofs.Common.{◌≡◌, ◌<◌, ◌∙◌, ◌++◌, ◌∷◌, List, ℕ, Some, length, take, sym, ap, subst, refl, arith, length-append}
+use Rattle.std.proofs.Common.{◌≡◌, ◌<◌, ◌∙◌, ◌++◌, ◌∷◌, [], List, ℕ, Some, length, take, sym, ap, subst, refl, arith, length-append}
 use Rattle.propagation.specs.Logs.{Emission, stamps_of}
 use Rattle.propagation.specs.Logs.Entry.{Computed as TheComputed}
-use Rattle.service_machine.specs.States.{Slot}
+use Rattle.service_machine.specs.States.{Slot, raise, raise_all}
 use Rattle.service_machine.specs.Steps.{after_computing, computed_log, reports, picks}
-use Rattle.service_machine.specs.Turning.{slots_of}
+use Rattle.service_machine.specs.Turning.{heads, slots_of}
 use Rattle.node_core.specs.Outgoing.{Says}
 use Rattle.stamp_match.specs.Kept.{IsMatcherOf}
 use Rattle.svc_graph.specs.History.{meaning_of}
@@ -47,20 +47,27 @@ invariant_of-self-2 g c =
       };
       counted = counted_more c.self.inside.journal.entries c.record-outgoing.new.self.entries c.self.inside.slots.items
           (omega (arith, grown, same, length-append c.reserve.new.self.entries (Computed c.in_ok-computation.computation ∷ sent_entries c.in_ok-outgoing.outgoing))) c.self.invariant.counted;
-      matched = (let P : List (Slot Value) → Type 0 = λ xs. IsMatcherOf xs c.raise_by.new.floor c.raise_by.new.matcher in
-          subst P (c.inputs_of-inputs-2.ensures.first ∙ ap (λ (xs : List (Slot Value)). take (length c.self.inside.edges) xs) c.as_slice-2.ensures.value) c.raise_by.ensures.matcher);
+      matched = (let P : List (Slot Value) → Type 0 = λ xs. IsMatcherOf xs c.raise_over.new.floor c.raise_over.new.matcher in
+          subst P (c.inputs_of-inputs-2.ensures.first ∙ ap (λ (xs : List (Slot Value)). take (length c.self.inside.edges) xs) c.as_slice-2.ensures.value) c.raise_over.ensures.matcher);
     }
 
-pub raise_by-requires : goal.raise_by-requires
-raise_by-requires g c =
+pub raise_over-requires-clause-matcher : goal.raise_over-requires-clause-matcher
+raise_over-requires-clause-matcher g c =
     let P : List (Slot Value) → Type 0 = λ xs. IsMatcherOf xs c.self.inside.floor c.self.inside.matcher in
     subst P (sym (c.inputs_of-inputs-2.ensures.first ∙ ap (λ (xs : List (Slot Value)). take (length c.self.inside.edges) xs) c.as_slice-2.ensures.value)) c.self.invariant.matched
 
 pub returns-clause-state : goal.returns-clause-state
 returns-clause-state g c =
-    computed_state (service_of c.self.inside).state c.in-Some.definition c.in_ok-emission.emission c.replace-last.new.dest c.raise_by.new.floor c.self.inside.readers.present c.in-Some.is
+    let same =
+    (c.inputs_of-inputs-2.ensures.slots ∙ ap (λ (xs : List (Slot Value)). slots_of c.self.inside.edges xs) c.as_slice-2.ensures.value)
+    ∙ sym (c.inputs_of-inputs.ensures.slots ∙ ap (λ (xs : List (Slot Value)). slots_of c.self.inside.edges xs) c.as_slice.ensures.value) in
+    let raised : c.raise_over.new.floor ≡ raise c.self.inside.floor c.in_ok-emission.emission.stamps =
+    c.raise_over.ensures.raised
+    ∙ ap (λ (xs : List (Slot Value)). raise c.self.inside.floor (raise_all ((c.self.inside.id, c.self.inside.own) ∷ []) (heads xs))) same
+    ∙ ap (λ (m : Emission Value). raise c.self.inside.floor m.stamps) (sym c.in_ok-emission.ensures.emission) in
+    computed_state (service_of c.self.inside).state c.in-Some.definition c.in_ok-emission.emission c.replace-last.new.dest c.raise_over.new.floor c.self.inside.readers.present c.in-Some.is
     (c.in_ok-emission.ensures.emission ∙ ap (λ (slots : List (Slot Value)). emission_over c.self.inside.id c.self.inside.own c.in-Some.definition slots) (c.inputs_of-inputs.ensures.slots ∙ ap (λ (xs : List (Slot Value)). slots_of c.self.inside.edges xs) c.as_slice.ensures.value))
-    c.replace-last.ensures.after c.raise_by.ensures.raised refl
+    c.replace-last.ensures.after raised refl
     ∙ ap (λ (s : NodeView). after_computing meaning_of s.state s.state.definition) c.self.view_is
 
 pub returns-clause-log : goal.returns-clause-log
