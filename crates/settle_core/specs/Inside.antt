@@ -4,3 +4,8 @@ pub mod Marks
 pub mod Acting
 pub mod Beginning
 pub mod Draining
+pub mod Working
+pub mod Handing
+pub mod Parting
+pub mod Rings
+pub mod Joining

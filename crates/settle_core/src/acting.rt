@@ -57,8 +57,8 @@ fn turned_by<M: Ledger, L: Ledger>(
     node.turn(&mut moves, &mut looks)
 }
 
-// Takes a turn whose moves and looks nobody counts.
-fn turned(node: &mut Node) -> Result<Turned, OutOfMemory>
+/// Takes a turn whose moves and looks nobody counts.
+pub(crate) fn turned(node: &mut Node) -> Result<Turned, OutOfMemory>
     ensures state { OnOk result (node.new.state ≡ turned_in meaning_of node.old.state) }
     ensures log { OnOk result (Grows node.old node.new (turn_log meaning_of node.old.state)) }
     ensures answer { IfOk result (IsAnswer (choice_of node.old.state)) }

@@ -11,6 +11,7 @@ use Rattle.svc_value.specs.declared.value.Value.{Value}
 use Rattle.wire_frame.specs.Message.{IsMessage}
 use Rattle.node_core.specs.declared.entry.Entry.{Entry}
 use Rattle.node_core.specs.Entries.{Extends, sent_to}
+use Rattle.node_core.specs.Legs.{StaysInLeg}
 use Rattle.node_core.specs.Ranks.{rank_in, typed_in}
 use Rattle.node_core.specs.View.{NodeView}
 use Rattle.settle_core.specs.Net.{service_at, took_from, place_of, waits}
@@ -24,13 +25,14 @@ gone n more k p = if k == n then took_from p more else []
 abbrev pub came : ℕ → List Entry → ℕ → ℕ → List (List ℕ)
 came n more k p = if p == n then sent_to k more else []
 
--- The node of service n is then in this state, its log has the entries more that make this of each log, and the links have what these
--- entries say.
+-- The node of service n is then in this state and in the same leg, its log has the entries more that make this of each log, and the links
+-- have what these entries say.
 pub record NodeActs (n : ℕ) (after : State Value Definition) (step : List (TheEntry Value) → List (TheEntry Value)) (old new : NodeView) (links links' : List (List (List ℕ))) : Type 0 where
   pub table : length links' ≡ length links
   pub state : new.state ≡ after
   pub roster : new.roster ≡ old.roster
   pub changes : new.changes ≡ old.changes
+  pub stays : StaysInLeg old new
   pub handed : new.outbox ≡ []
   pub more : List Entry
   pub entries : new.entries ≡ old.entries ++ more

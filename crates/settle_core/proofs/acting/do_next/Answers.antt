@@ -5,6 +5,7 @@ use Rattle.service_machine.specs.Steps.{targets, after_changing, done_log}
 use Rattle.svc_graph.specs.History.{at_clock, dependencies}
 use Rattle.node_core.specs.Outbox.{waiting}
 use Rattle.node_core.specs.View.{Grows}
+use Rattle.node_core.proofs.LegLemmas.{changes_stay}
 use Rattle.settle_core.specs.Net.{place_of}
 use Rattle.settle_core.specs.Inside.Table.{link_in}
 use Rattle.settle_core.proofs.BoundLemmas.{next_names, next_apart, next_has, done_bounded}
@@ -36,5 +37,5 @@ returns-clause-acts c =
     let waits = same_trans c.args.links.now.items c.reserve_all.new.links.items c.reserve_named.new.links.items c.in_ok-reserve_all.ensures.same c.in_ok-reserve_named.ensures.same in
     node_acts c.args.id (c.do_next.new.self.handed + length c.do_next.new.self.outbox) (after_changing dependencies c.args.node.now.state) (done_log dependencies c.args.node.now.state)
     c.args.node.now c.do_next.new.self c.hand_over.new.node c.args.links.now.items c.reserve_named.new.links.items c.hand_over.new.links.items
-    c.in_ok-is_done.ensures.state c.in_ok-is_done.ensures.log c.requires.ready.handed (λ p. (done_bounded dependencies c.args.node.now.state c.requires.apart c.args.node.now.state.left refl apart).taken_same p)
+    c.in_ok-is_done.ensures.state c.in_ok-is_done.ensures.log (changes_stay c.args.node.now c.do_next.new.self c.in_ok-is_done.ensures.state c.in_ok-is_done.ensures.log) c.requires.ready.handed (λ p. (done_bounded dependencies c.args.node.now.state c.requires.apart c.args.node.now.state.left refl apart).taken_same p)
     c.hand_over.ensures.node waits.waiting c.hand_over.ensures.len c.hand_over.ensures.links

@@ -6,6 +6,7 @@ use Rattle.service_machine.specs.Steps.{targets, after_turning, turn_log}
 use Rattle.svc_graph.specs.History.{meaning_of}
 use Rattle.node_core.specs.Outbox.{waiting}
 use Rattle.node_core.specs.View.{Grows}
+use Rattle.node_core.proofs.LegLemmas.{turns_stay}
 use Rattle.settle_core.specs.Inside.Table.{link_in}
 use Rattle.settle_core.proofs.BoundLemmas.{turn_bounded}
 use Rattle.settle_core.proofs.NodeLemmas.{services_told, room_for, outbox_more, node_acts}
@@ -30,5 +31,5 @@ pub returns-clause-acts : goal.returns-clause-acts
 returns-clause-acts c =
     node_acts c.args.id (c.turned.new.node.handed + length c.turned.new.node.outbox) (after_turning meaning_of c.args.node.now.state) (turn_log meaning_of c.args.node.now.state)
     c.args.node.now c.turned.new.node c.hand_over.new.node c.args.links.now.items c.reserve_all.new.links.items c.hand_over.new.links.items
-    c.in_ok-answer.ensures.state c.in_ok-answer.ensures.log c.requires.ready.handed (λ p. (turn_bounded meaning_of c.args.node.now.state c.requires.once).taken_same p)
+    c.in_ok-answer.ensures.state c.in_ok-answer.ensures.log (turns_stay c.args.node.now c.turned.new.node c.in_ok-answer.ensures.state c.in_ok-answer.ensures.log) c.requires.ready.handed (λ p. (turn_bounded meaning_of c.args.node.now.state c.requires.once).taken_same p)
     c.hand_over.ensures.node c.in_ok-reserve_all.ensures.same.waiting c.hand_over.ensures.len c.hand_over.ensures.links
