@@ -1,0 +1,3 @@
+pub mod LegLemmas
+pub mod SendLemmas
+pub mod TurnLemmas
