@@ -7,14 +7,14 @@ use Rattle.clap.specs.declared.parser.matches.ArgMatches.{ArgMatches}
 use Rattle.clap.proofs.OnLiterals.{clap_on_literals}
 use Rattle.clap.proofs.WalkLemmas.{first_value-rows}
 use Rattle.command_words.specs.declared.command.Command.{Command}
-use Rattle.command_words.specs.declared.command.Command.TheVariants.{Step, Check, Central, Frames, Make, Load}
+use Rattle.command_words.specs.declared.command.Command.TheVariants.{Run, Step, Check, Central, Frames, Make, Load}
 use Rattle.command_words.specs.declared.size.Size.{Size}
 use Rattle.command_words.specs.declared.trace_flags.TraceFlags.{TraceFlags}
-use Rattle.command_words.specs.Taken.{flag_text, load_taken, make_taken, number_in, with_size, step_taken, taken_by}
+use Rattle.command_words.specs.Taken.{flag_text, load_taken, make_taken, number_in, run_taken, step_taken, taken_by, with_size}
 use Rattle.command_words.specs.Words.{command_of, number_behind, number_value, size_in, size_of}
 use Rattle.command_words.proofs.ByCommand.{by_command}
 use Rattle.command_words.proofs.PlainWords.{IsPlain, digit_is_plain, no_hyphen, numbers_take, services_found, changes_found, start_found}
-use Rattle.command_words.proofs.StepWords.{sources_found, step_takes, trace_found}
+use Rattle.command_words.proofs.TracedWords.{flags_found, flags_take}
 
 -- ---- numbers are no flags
 
@@ -84,20 +84,30 @@ unfolding clap_on_literals
 accepted_takes [] command e = absurd (cc e)
 accepted_takes (first ∷ behind) command e =
     by_command (λ command. takes (taken_by command) (first ∷ behind) ≡ true) first behind
-    (step_takes first behind) (size_takes (codes "make") first behind) (size_takes (codes "load") first behind)
+    (flags_take (codes "run") first behind) (flags_take (codes "step") first behind) (size_takes (codes "make") first behind) (size_takes (codes "load") first behind)
     (bare_takes first behind Check refl) (bare_takes first behind Central refl) (bare_takes first behind Frames refl)
     command e
 
--- and it finds in them the flags of `step`,
-pub accepted_flags : (words : List Text) (flags : TraceFlags) (m : ArgMatches) → command_of words ≡ Some (Step flags) → HasMatchesOf step_taken words m
-    → (one_text (found_of m) (codes "trace") ≡ Some (flag_text flags.trace)) × (one_text (found_of m) (codes "sources") ≡ Some (flag_text flags.sources))
-accepted_flags [] flags m e found = absurd (cc e)
-accepted_flags (first ∷ behind) flags m e found =
-    by_command (λ command. command ≡ Step flags → (one_text (found_of m) (codes "trace") ≡ Some (flag_text flags.trace)) × (one_text (found_of m) (codes "sources") ≡ Some (flag_text flags.sources))) first behind
-    (λ given h is.
-    let same : given ≡ flags = cc is in
-    let are = h ∙ ap Some same in
-    (trace_found first behind flags are m found, sources_found first behind flags are m found))
+-- and it finds in them the flags of `run` and `step`,
+abbrev pub AreFound : ArgMatches → TraceFlags → Type 0
+AreFound m flags = (one_text (found_of m) (codes "trace") ≡ Some (flag_text flags.trace)) × (one_text (found_of m) (codes "sources") ≡ Some (flag_text flags.sources))
+
+pub accepted_run : (words : List Text) (flags : TraceFlags) (m : ArgMatches) → command_of words ≡ Some (Run flags) → HasMatchesOf run_taken words m → AreFound m flags
+accepted_run [] flags m e found = absurd (cc e)
+accepted_run (first ∷ behind) flags m e found =
+    by_command (λ command. command ≡ Run flags → AreFound m flags) first behind
+    (λ given h is. flags_found (codes "run") first behind flags m (h ∙ ap Some (let same : given ≡ flags = cc is in same)) found)
+    (λ given h is. absurd (cc is))
+    (λ size h is. absurd (cc is)) (λ size h is. absurd (cc is))
+    (λ h is. absurd (cc is)) (λ h is. absurd (cc is)) (λ h is. absurd (cc is))
+    (Run flags) e refl
+
+pub accepted_step : (words : List Text) (flags : TraceFlags) (m : ArgMatches) → command_of words ≡ Some (Step flags) → HasMatchesOf step_taken words m → AreFound m flags
+accepted_step [] flags m e found = absurd (cc e)
+accepted_step (first ∷ behind) flags m e found =
+    by_command (λ command. command ≡ Step flags → AreFound m flags) first behind
+    (λ given h is. absurd (cc is))
+    (λ given h is. flags_found (codes "step") first behind flags m (h ∙ ap Some (let same : given ≡ flags = cc is in same)) found)
     (λ size h is. absurd (cc is)) (λ size h is. absurd (cc is))
     (λ h is. absurd (cc is)) (λ h is. absurd (cc is)) (λ h is. absurd (cc is))
     (Step flags) e refl
@@ -110,7 +120,7 @@ pub accepted_make : (words : List Text) (size : Size) (m : ArgMatches) → comma
 accepted_make [] size m e found = absurd (cc e)
 accepted_make (first ∷ behind) size m e found =
     by_command (λ command. command ≡ Make size → size_in_matches m ≡ Some size) first behind
-    (λ flags h is. absurd (cc is))
+    (λ flags h is. absurd (cc is)) (λ flags h is. absurd (cc is))
     (λ given h is. size_found (codes "make") first behind size m (h ∙ ap Some (let same : given ≡ size = cc is in same)) found)
     (λ given h is. absurd (cc is))
     (λ h is. absurd (cc is)) (λ h is. absurd (cc is)) (λ h is. absurd (cc is))
@@ -120,7 +130,7 @@ pub accepted_load : (words : List Text) (size : Size) (m : ArgMatches) → comma
 accepted_load [] size m e found = absurd (cc e)
 accepted_load (first ∷ behind) size m e found =
     by_command (λ command. command ≡ Load size → size_in_matches m ≡ Some size) first behind
-    (λ flags h is. absurd (cc is))
+    (λ flags h is. absurd (cc is)) (λ flags h is. absurd (cc is))
     (λ given h is. absurd (cc is))
     (λ given h is. size_found (codes "load") first behind size m (h ∙ ap Some (let same : given ≡ size = cc is in same)) found)
     (λ h is. absurd (cc is)) (λ h is. absurd (cc is)) (λ h is. absurd (cc is))

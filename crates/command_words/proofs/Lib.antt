@@ -3,4 +3,4 @@ mod ByCommand
 mod FlagWords
 mod PlainWords
 pub mod Sizes
-mod StepWords
+mod TracedWords

@@ -2,9 +2,10 @@
 use Rattle.std.proofs.Common.{◌≡◌, ℕ, Bool, true, false, List, [], ◌∷◌, Option, Some, None, refl, subst}
 use Rattle.std.specs.Prelude.{nat_le, if◌then◌else◌}
 use Rattle.std.proofs.lemmas.Bool.{leb-true, and_parts}
-use Rattle.command_words.specs.declared.command.Command.TheVariants.{Make, Load}
+use Rattle.command_words.specs.declared.command.Command.{Command}
+use Rattle.command_words.specs.declared.command.Command.TheVariants.{Run, Step, Check, Central, Frames, Make, Load}
 use Rattle.command_words.specs.declared.size.Size.{Size}
-use Rattle.command_words.specs.Words.{command_of, is_size, IsSize, number_value, size_in, size_of}
+use Rattle.command_words.specs.Words.{command_of, is_size, IsSize, number_value, plain_command_of, size_in, size_of, without_run}
 use Rattle.command_words.proofs.ByCommand.{by_command}
 
 within : (s c n : ℕ) → is_size s c n ≡ true → IsSize (record { services = s; changes = c; start = n })
@@ -45,7 +46,7 @@ pub size_made : (words : List (List ℕ)) (size : Size) → command_of words ≡
 size_made [] size e = absurd (cc e)
 size_made (first ∷ behind) size e =
     by_command (λ command. command ≡ Make size → IsSize size) first behind
-    (λ flags h is. absurd (cc is))
+    (λ flags h is. absurd (cc is)) (λ flags h is. absurd (cc is))
     (λ made h is. subst IsSize (let same : made ≡ size = cc is in same) (size_found behind made h))
     (λ made h is. absurd (cc is))
     (λ h is. absurd (cc is)) (λ h is. absurd (cc is)) (λ h is. absurd (cc is))
@@ -56,8 +57,26 @@ pub size_loaded : (words : List (List ℕ)) (size : Size) → command_of words �
 size_loaded [] size e = absurd (cc e)
 size_loaded (first ∷ behind) size e =
     by_command (λ command. command ≡ Load size → IsSize size) first behind
-    (λ flags h is. absurd (cc is))
+    (λ flags h is. absurd (cc is)) (λ flags h is. absurd (cc is))
     (λ made h is. absurd (cc is))
     (λ made h is. subst IsSize (let same : made ≡ size = cc is in same) (size_found behind made h))
     (λ h is. absurd (cc is)) (λ h is. absurd (cc is)) (λ h is. absurd (cc is))
     (Load size) e refl
+
+-- ---- where no threads are at hand
+
+with_run : (asked : Option Command) (command : Command) → without_run asked ≡ Some command → asked ≡ Some command
+with_run None command e = absurd (cc e)
+with_run (Some (Run flags)) command e = absurd (cc e)
+with_run (Some (Step flags)) command e = e
+with_run (Some Check) command e = e
+with_run (Some Central) command e = e
+with_run (Some Frames) command e = e
+with_run (Some (Make size)) command e = e
+with_run (Some (Load size)) command e = e
+
+pub plain_size_made : (words : List (List ℕ)) (size : Size) → plain_command_of words ≡ Some (Make size) → IsSize size
+plain_size_made words size e = size_made words size (with_run (command_of words) (Make size) e)
+
+pub plain_size_loaded : (words : List (List ℕ)) (size : Size) → plain_command_of words ≡ Some (Load size) → IsSize size
+plain_size_loaded words size e = size_loaded words size (with_run (command_of words) (Load size) e)

@@ -3,7 +3,7 @@ use Rattle.std.specs.Prelude.{ℕ, Bool, true, false, Option, None, Some, codes}
 use Rattle.clap.specs.Words.{App, Rule, Text, new_app, new_rule, with_rule}
 use Rattle.clap.specs.declared.builder.ArgAction.TheVariants.{Set, SetTrue}
 use Rattle.command_words.specs.declared.command.Command.{Command}
-use Rattle.command_words.specs.declared.command.Command.TheVariants.{Step, Check, Central, Frames, Make, Load}
+use Rattle.command_words.specs.declared.command.Command.TheVariants.{Run, Step, Check, Central, Frames, Make, Load}
 use Rattle.command_words.specs.Words.{number_value}
 
 -- a command without arguments, and without a flag for help
@@ -22,9 +22,17 @@ flag name = record (new_rule name) { long = Some name; action = Some SetTrue }
 abbrev pub with_size : Text → App
 with_size name = with_rule (with_rule (with_rule (bare name) (place (codes "services"))) (place (codes "changes"))) (place (codes "start"))
 
+-- a command with the two flags of trace lines
+abbrev pub with_flags : Text → App
+with_flags name = with_rule (with_rule (bare name) (flag (codes "trace"))) (flag (codes "sources"))
+
+-- `run` with its two flags
+abbrev pub run_taken : App
+run_taken = with_flags (codes "run")
+
 -- `step` with its two flags
 abbrev pub step_taken : App
-step_taken = with_rule (with_rule (bare (codes "step")) (flag (codes "trace"))) (flag (codes "sources"))
+step_taken = with_flags (codes "step")
 
 -- `check`, without arguments
 abbrev pub check_taken : App
@@ -48,6 +56,7 @@ load_taken = with_size (codes "load")
 
 -- what clap is to take for a command
 abbrev pub taken_by : Command → App
+taken_by (Run flags) = run_taken
 taken_by (Step flags) = step_taken
 taken_by Check = check_taken
 taken_by Central = central_taken

@@ -4,7 +4,7 @@ use Rattle.std.specs.List.{list_all}
 use Rattle.std.specs.Char.{is_ascii_digit}
 use Rattle.std.specs.Cmp.Lexicographic.{pointwise}
 use Rattle.command_words.specs.declared.command.Command.{Command}
-use Rattle.command_words.specs.declared.command.Command.TheVariants.{Step, Check, Central, Frames, Make, Load}
+use Rattle.command_words.specs.declared.command.Command.TheVariants.{Run, Step, Check, Central, Frames, Make, Load}
 use Rattle.command_words.specs.declared.size.Size.{Size}
 use Rattle.command_words.specs.declared.trace_flags.TraceFlags.{TraceFlags}
 use Rattle.svc_value.specs.declared.limits.TheConstants.{MAX_CHANGES, MAX_SERVICES}
@@ -84,6 +84,11 @@ command_named name [] =
     else None))
 command_named name (word ∷ words) = None
 
+-- the command `run` with these flags, if they are flags
+abbrev pub running : Option TraceFlags → Option Command
+running None = None
+running (Some flags) = Some (Run flags)
+
 -- the command `step` with these flags, if they are flags
 abbrev pub stepping : Option TraceFlags → Option Command
 stepping None = None
@@ -103,10 +108,20 @@ loading (Some size) = Some (Load size)
 abbrev pub command_of : List (List ℕ) → Option Command
 command_of [] = None
 command_of (first ∷ behind) =
-    if pointwise nat_eq first (codes "step") then stepping (flags_of behind)
+    if pointwise nat_eq first (codes "run") then running (flags_of behind)
+    else (if pointwise nat_eq first (codes "step") then stepping (flags_of behind)
     else (if pointwise nat_eq first (codes "make") then making (size_in behind)
     else (if pointwise nat_eq first (codes "load") then loading (size_in behind)
-    else command_named first behind))
+    else command_named first behind)))
+
+-- a command that needs no threads: each but `run`
+abbrev pub without_run : Option Command → Option Command
+without_run (Some (Run flags)) = None
+without_run command = command
+
+-- the command that the words stand for where no threads are at hand
+abbrev pub plain_command_of : List (List ℕ) → Option Command
+plain_command_of words = without_run (command_of words)
 
 -- the line that all other words are answered with
 abbrev pub usage_line : List ℕ

@@ -1,7 +1,7 @@
 // The words that are accepted, by the rules of the product alone.
 ghost use Rattle.std.specs.Prelude.{◌≡◌, map};
 ghost use Rattle.std.specs.String.{string_bytes};
-ghost use Rattle.command_words.specs.Words.{command_of, command_named, loading, making, size_in, stepping};
+ghost use Rattle.command_words.specs.Words.{command_of, command_named, loading, making, running, size_in, stepping};
 
 use crate::numbers::number_of;
 use crate::size::size_of;
@@ -16,6 +16,7 @@ pub(crate) fn accepted(words: &[String]) -> Option<Command>
         return None;
     };
     match first.as_str() {
+        "run" => running(flags_of(behind)),
         "step" => stepping(flags_of(behind)),
         "make" => making(size_in(behind)),
         "load" => loading(size_in(behind)),
@@ -39,6 +40,16 @@ pub(crate) fn loading(size: Option<Size>) -> Option<Command>
 {
     match size {
         Some(size) => Some(Command::Load(size)),
+        None => None,
+    }
+}
+
+// The command `run` with these flags, if they are flags.
+fn running(flags: Option<TraceFlags>) -> Option<Command>
+    ensures { result ≡ running flags }
+{
+    match flags {
+        Some(flags) => Some(Command::Run(flags)),
         None => None,
     }
 }

@@ -28,7 +28,7 @@ pub(crate) fn found<'a>(
     }
 }
 
-/// The flags that are found for `step`.
+/// The flags that are found for `run` or `step`.
 pub(crate) fn flags_found(found: &ArgMatches<'_>) -> TraceFlags
     ensures { (flags : TraceFlags) → one_text (found_of found.now) (codes "trace") ≡ Some (flag_text flags.trace)
         → one_text (found_of found.now) (codes "sources") ≡ Some (flag_text flags.sources) → result ≡ flags }

@@ -5,8 +5,10 @@ ghost use Rattle.command_words.specs.Taken.{
   bare,
   flag,
   place,
+  with_flags,
   with_size,
   taken_by,
+  run_taken,
   step_taken,
   check_taken,
   central_taken,
@@ -28,6 +30,7 @@ pub(crate) fn taken_by<'a>(
     ensures { IfOk result (λ taken. app_of taken ≡ taken_by command) }
 {
     match command {
+        Command::Run(_) => run_taken(alloc),
         Command::Step(_) => step_taken(alloc),
         Command::Check => Ok(check_taken(alloc)),
         Command::Central => Ok(central_taken(alloc)),
@@ -37,15 +40,18 @@ pub(crate) fn taken_by<'a>(
     }
 }
 
+// `run` with its two flags.
+fn run_taken<'a>(alloc: Global) -> Result<clap::Command<'a>, OutOfMemory>
+    ensures { IfOk result (λ command. app_of command ≡ run_taken) }
+{
+    with_flags(alloc, "run")
+}
+
 // `step` with its two flags.
 fn step_taken<'a>(alloc: Global) -> Result<clap::Command<'a>, OutOfMemory>
     ensures { IfOk result (λ command. app_of command ≡ step_taken) }
 {
-    Ok(
-        bare(alloc, "step")
-            .arg(flag(alloc, "trace"))?
-            .arg(flag(alloc, "sources"))?,
-    )
+    with_flags(alloc, "step")
 }
 
 // `check`.
@@ -81,6 +87,17 @@ fn load_taken<'a>(alloc: Global) -> Result<clap::Command<'a>, OutOfMemory>
     ensures { IfOk result (λ command. app_of command ≡ load_taken) }
 {
     with_size(alloc, "load")
+}
+
+// A command with the two flags of trace lines.
+fn with_flags<'a>(alloc: Global, name: &'a str) -> Result<clap::Command<'a>, OutOfMemory>
+    ensures { IfOk result (λ command. app_of command ≡ with_flags name.entry.now) }
+{
+    Ok(
+        bare(alloc, name)
+            .arg(flag(alloc, "trace"))?
+            .arg(flag(alloc, "sources"))?,
+    )
 }
 
 // A command with the three numbers of a size, as plain texts.

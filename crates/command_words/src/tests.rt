@@ -3,13 +3,28 @@ use crate::{Command, Size, TraceFlags};
 use std::alloc::Global;
 use std::test::Fail;
 
-// What these words stand for.
-fn read(alloc: Global, words: &[&str]) -> Result<Option<Command>, Fail> {
+// These words.
+fn strings(alloc: Global, words: &[&str]) -> Result<Vec<String>, Fail> {
     let mut all = Vec::new(alloc);
     for word in words {
         all.push(String::from_str(alloc, word)?)?;
     }
+    Ok(all)
+}
+
+// What these words stand for.
+fn read(alloc: Global, words: &[&str]) -> Result<Option<Command>, Fail> {
+    let all = strings(alloc, words)?;
     match Command::from_words(alloc, &all) {
+        Ok(command) => Ok(command),
+        Err(_) => Err(Fail::from("want of memory")),
+    }
+}
+
+// What they stand for where no threads are at hand.
+fn read_plain(alloc: Global, words: &[&str]) -> Result<Option<Command>, Fail> {
+    let all = strings(alloc, words)?;
+    match Command::from_plain_words(alloc, &all) {
         Ok(command) => Ok(command),
         Err(_) => Err(Fail::from("want of memory")),
     }
@@ -24,6 +39,11 @@ fn size(services: u16, changes: u16, start: u32) -> Size {
     }
 }
 
+// The command `run` with these flags.
+fn run(trace: bool, sources: bool) -> Command {
+    Command::Run(TraceFlags { trace, sources })
+}
+
 // The command `step` with these flags.
 fn step(trace: bool, sources: bool) -> Command {
     Command::Step(TraceFlags { trace, sources })
@@ -31,7 +51,12 @@ fn step(trace: bool, sources: bool) -> Command {
 
 #[test]
 fn words_stand_for_commands(rt: HostRuntime) -> Result<(), Fail> {
-    let rows: [(&[&str], Command); 14] = [
+    let rows: [(&[&str], Command); 19] = [
+        (&["run"], run(false, false)),
+        (&["run", "--trace"], run(true, false)),
+        (&["run", "--sources"], run(false, true)),
+        (&["run", "--trace", "--sources"], run(true, true)),
+        (&["run", "--sources", "--trace"], run(true, true)),
         (&["step"], step(false, false)),
         (&["step", "--trace"], step(true, false)),
         (&["step", "--sources"], step(false, true)),
@@ -61,12 +86,19 @@ fn words_stand_for_commands(rt: HostRuntime) -> Result<(), Fail> {
 
 #[test]
 fn other_words_are_not_accepted(rt: HostRuntime) -> Result<(), Fail> {
-    let rows: [&[&str]; 39] = [
+    let rows: [&[&str]; 46] = [
         &[],
         &[""],
-        &["run"],
         &["run", "--fast"],
         &["run", "--trace", "--trace"],
+        &["run", "--sources", "--trace", "--sources"],
+        &["run", "--trace", "--"],
+        &["run", "--trace=1"],
+        &["run", "--keep"],
+        &["run", ""],
+        &["run", "run"],
+        &["run", "step"],
+        &["Run"],
         &["step", "--trace", "--trace"],
         &["step", "--sources", "--sources"],
         &["step", "--sources", "--trace", "--sources"],
@@ -105,6 +137,24 @@ fn other_words_are_not_accepted(rt: HostRuntime) -> Result<(), Fail> {
     for words in rows {
         assert!(rt; read(rt.alloc(), words)?.is_none());
     }
+    Ok(())
+}
+
+#[test]
+fn words_of_run_need_threads(rt: HostRuntime) -> Result<(), Fail> {
+    let rows: [&[&str]; 4] = [
+        &["run"],
+        &["run", "--trace"],
+        &["run", "--sources", "--trace"],
+        &["run", "--fast"],
+    ];
+    for words in rows {
+        assert!(rt; read_plain(rt.alloc(), words)?.is_none());
+    }
+    let traced = read_plain(rt.alloc(), &["step", "--trace"])?;
+    assert!(rt; traced == Some(step(true, false)));
+    let made = read_plain(rt.alloc(), &["make", "3", "5", "1"])?;
+    assert!(rt; made == Some(Command::Make(size(3, 5, 1))));
     Ok(())
 }
 

@@ -7,4 +7,4 @@ pub returns-in_default-as_str : goal.returns-in_default-as_str
 returns-in_default-as_str c =
     c.named.ensures
     ∙ other_names string_bytes c.args.words.now c.first-item.result c.as_str.result.now c.in-len1-up.len_at_least c.first-item.is c.as_str.ensures.value
-    c.in_default-as_str.not-step c.in_default-as_str.not-make c.in_default-as_str.not-load
+    c.in_default-as_str.not-run c.in_default-as_str.not-step c.in_default-as_str.not-make c.in_default-as_str.not-load
