@@ -1,6 +1,6 @@
 -- A run of legs goes on by one leg.
 -- Where `i` legs were run, the rows are those after the front `take i legs`, and the text that was added is theirs; so it stays with one leg more.
-use Rattle.std.proofs.Common.{◌≡◌, ◌∙◌, sym, ap, subst, refl, ℕ, ◌+◌, ◌<◌, true, List, [], ◌∷◌, ◌++◌, ◌⊎◌, inl, inr, Option, Result, Ok, Err, IfOk, OnOk, OnErr, append_assoc, append-nil, length, take, drop, take-append-drop, slice_index_or}
+use Rattle.std.proofs.Common.{◌≡◌, ◌∙◌, sym, ap, subst, refl, ℕ, ◌+◌, ◌<◌, true, List, [], ◌∷◌, ◌++◌, ◌⊎◌, inl, inr, Option, Result, Ok, Err, OnOk, OnErr, append_assoc, append-nil, length, take, drop, take-append-drop, slice_index_or}
 use Rattle.std.proofs.lemmas.List.{take_more}
 use Rattle.std.proofs.KnownBytes.{Appends-nil, Appends-trans, Appends-kept}
 use Rattle.std.specs.Io.KnownBytes.{Keeps}
@@ -16,7 +16,7 @@ use Rattle.trace_text.specs.Blocks.{Trace, IsTraceOf, trace_lines}
 use Rattle.trace_text.specs.Named.{naming}
 use Rattle.trace_text.specs.Settled.{Settles, settled_block}
 use Rattle.trace_text.specs.Traces.{Traces}
-use Rattle.qprop_cli.specs.Commands.Step.{HoldsCentral, HasRun, EndsWith, HasDone, HasTraced, IsTraced, AreTraced, IsTracedText, EndsTraces, logs_of, wanted}
+use Rattle.qprop_cli.specs.Commands.Step.{HoldsCentral, HasRun, EndsWith, HasDone, IsTraced, AreTraced, IsTracedText, EndsTraces, wanted}
 use Rattle.qprop_cli.specs.Inside.Blocks.{IsBlock, IsTracedBlock, AddsBlock, BeginsBlock, AddsText, BeginsText, AddsTraced}
 use Rattle.qprop_cli.specs.Inside.Running.{HasRunAll}
 use Rattle.qprop_cli.proofs.LegLemmas.{leg_at, rows_more, settles_more, traces_more, traced_more}

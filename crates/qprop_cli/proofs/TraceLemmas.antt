@@ -1,5 +1,5 @@
 -- The trace of a leg that was run, and its block.
-use Rattle.std.proofs.Common.{◌≡◌, ◌∙◌, sym, ap, subst, refl, ℕ, zero, suc, ◌+◌, ◌<◌, arith, true, List, [], ◌∷◌, ◌++◌, append_assoc, append-nil, All, length, map, take, slice_index_or, Bor, Option, Some, None}
+use Rattle.std.proofs.Common.{◌≡◌, ◌∙◌, sym, ap, subst, refl, ℕ, zero, suc, ◌+◌, ◌<◌, arith, true, List, [], ◌∷◌, ◌++◌, append_assoc, append-nil, All, length, take, slice_index_or, Bor, Option, Some, None}
 use Rattle.std.specs.Option.{IsSome, option_copied}
 use Rattle.std.proofs.lemmas.List.{length-map, length-take-le, take_more}
 use Rattle.std.proofs.lemmas.List.Elements.{All-map}
@@ -22,9 +22,9 @@ use Rattle.trace_text.specs.Blocks.{Trace, if_wanted, trace_lines, IsTraceOf}
 use Rattle.trace_text.specs.Lines.{family_text, log_text, logs_text}
 use Rattle.trace_text.specs.Named.{naming, KeysBelow, NamesBelow}
 use Rattle.trace_text.specs.Naming.{Naming}
-use Rattle.trace_text.specs.Notes.{IsNoteOf, steps_text, sources_line, sources_lines}
+use Rattle.trace_text.specs.Notes.{IsNoteOf, sources_line, sources_lines}
 use Rattle.trace_text.specs.Settled.{settled_block}
-use Rattle.qprop_cli.specs.Commands.Step.{HasRun, IsTraced, ListsReach, all_sources, logs_of, sources_of, trace_of, wanted}
+use Rattle.qprop_cli.specs.Commands.Step.{ListsReach, all_sources, logs_of, sources_of, trace_of, wanted}
 use Rattle.qprop_cli.specs.Inside.Blocks.{IsTracedBlock}
 use Rattle.qprop_cli.specs.Inside.StepLines.{RunsLeg}
 use Rattle.qprop_cli.proofs.NamedEntries.{entries_named}
