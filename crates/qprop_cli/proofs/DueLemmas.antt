@@ -6,15 +6,16 @@ use Rattle.settle_core.specs.Values.{value_of}
 use Rattle.svc_graph.specs.Central.{AreCentral}
 use Rattle.svc_graph.specs.History.{Row}
 use Rattle.svc_plan.specs.declared.plan.Leg.{Leg}
+use Rattle.svc_plan.specs.declared.plan.Mode.{Mode}
 use Rattle.svc_plan.specs.declared.plan.Mode.TheVariants as mode
-use Rattle.svc_plan.specs.Rows.{rows_after_all, AreLegsAfter}
+use Rattle.svc_plan.specs.Rows.{AreLegsAfter}
 use Rattle.svc_value.specs.declared.value.Value.{Value}
 use Rattle.trace_text.specs.Settled.{Settles}
 use Rattle.trace_text.proofs.TracesSettle.{untraced_settles}
 use Rattle.document_reading.specs.declared.refusal.Refusal.{Refusal}
 use Rattle.document_reading.specs.Document.{HasLegs}
 use Rattle.command_words.specs.declared.command.Command.{Command}
-use Rattle.command_words.specs.declared.command.Command.TheVariants.{Step, Check, Central, Frames, Make, Load}
+use Rattle.command_words.specs.declared.command.Command.TheVariants.{Run, Step, Check, Central, Frames, Make, Load}
 use Rattle.command_words.specs.declared.size.Size.{Size}
 use Rattle.command_words.specs.declared.trace_flags.TraceFlags.{TraceFlags}
 use Rattle.command_words.specs.Words.{usage_line}
@@ -42,17 +43,25 @@ module _ (left_old left_new held_old held_new : Option (List ℕ)) where
       AddsDue command left_old left_new held_old held_new
   refusal_due command refusal refuses begun = record { text = refusal_line refusal; due = IsDue.refusal refuses; begun = begun }
 
-  -- ---- `step` and `central`
+  -- ---- `run`, `step` and `central`
 
   -- the blocks of the legs that were run
-  pub blocks_due : (flags : TraceFlags) (legs : List Leg) → GivesLegs mode.Step left_old left_new legs → BeginsText (IsTracedText flags) held_old held_new legs →
+  module _ (of : Mode) (command : Command) (flags : TraceFlags) (writes : (legs : List Leg) (text : List ℕ) → IsTracedText flags legs text → WritesBlocks command of legs text) where
+    traced_due : (legs : List Leg) → GivesLegs of left_old left_new legs → BeginsText (IsTracedText flags) held_old held_new legs → AddsDue (Some command) left_old left_new held_old held_new
+    traced_due legs gives added =
+        record {
+          text = added.text;
+          due = IsDue.blocks gives.read added.run added.left gives.whole (subst (λ l. HasLegs of gives.read l) (sym added.all) gives.accepted) (writes added.run added.text added.is_text);
+          begun = added.begun;
+        }
+
+  pub run_blocks_due : (flags : TraceFlags) (legs : List Leg) → GivesLegs mode.Plain left_old left_new legs → BeginsText (IsTracedText flags) held_old held_new legs →
+      AddsDue (Some (Run flags)) left_old left_new held_old held_new
+  run_blocks_due flags = traced_due mode.Plain (Run flags) flags (λ legs text is. WritesBlocks.by_run is)
+
+  pub step_blocks_due : (flags : TraceFlags) (legs : List Leg) → GivesLegs mode.Step left_old left_new legs → BeginsText (IsTracedText flags) held_old held_new legs →
       AddsDue (Some (Step flags)) left_old left_new held_old held_new
-  blocks_due flags legs gives added =
-      record {
-        text = added.text;
-        due = IsDue.blocks gives.read added.run added.left gives.whole (subst (λ l. HasLegs mode.Step gives.read l) (sym added.all) gives.accepted) (WritesBlocks.by_step added.is_text);
-        begun = added.begun;
-      }
+  step_blocks_due flags = traced_due mode.Step (Step flags) flags (λ legs text is. WritesBlocks.by_step is)
 
   pub central_blocks_due : (legs : List Leg) → GivesLegs mode.Plain left_old left_new legs → BeginsText (Settles 0 []) held_old held_new legs → AddsDue (Some Central) left_old left_new held_old held_new
   central_blocks_due legs gives added =
@@ -62,9 +71,9 @@ module _ (left_old left_new held_old held_new : Option (List ℕ)) where
         begun = added.begun;
       }
 
-  pub settled_output : (flags : TraceFlags) (legs : List Leg) (network : NetworkView) → GivesLegs mode.Step left_old left_new legs → AreLegsAfter [] legs → AddsTraced flags held_old held_new legs network →
-      SettledOutput flags left_old left_new held_old held_new (Some network)
-  settled_output flags legs network gives after run = record {
+  pub settled_output : (of : Mode) (flags : TraceFlags) (legs : List Leg) (network : NetworkView) → GivesLegs of left_old left_new legs → AreLegsAfter [] legs → AddsTraced flags held_old held_new legs network →
+      SettledOutput of flags left_old left_new held_old held_new (Some network)
+  settled_output of flags legs network gives after run = record {
     read = gives.read;
     whole = gives.whole;
     legs = legs;

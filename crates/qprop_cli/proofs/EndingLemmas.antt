@@ -1,10 +1,10 @@
 -- From how a command ended to how the call ends: a refusal is answered behind what is held, and what is accepted is not refused.
-use Rattle.std.proofs.Common.{◌≡◌, ◌∙◌, ◌↔◌, ◌⊎◌, sym, ap, refl, subst, inl, inr, ℕ, ◌≤◌, arith, List, [], ◌++◌, Option, None, Some, Result, Ok, Err}
+use Rattle.std.proofs.Common.{◌≡◌, ◌∙◌, ◌↔◌, ◌⊎◌, ap, refl, subst, inl, inr, ℕ, ◌≤◌, arith, List, [], ◌++◌, Option, None, Some, Result, Ok, Err}
 use Rattle.std.specs.Prelude.{IsSome}
 use Rattle.std.specs.Io.KnownBytes.{Appends, Keeps}
 use Rattle.settle_core.specs.Net.{NetworkView}
 use Rattle.command_words.specs.declared.command.Command.{Command}
-use Rattle.command_words.specs.declared.command.Command.TheVariants.{Step, Check, Central, Frames, Make, Load}
+use Rattle.command_words.specs.declared.command.Command.TheVariants.{Run, Step, Check, Central, Frames, Make, Load}
 use Rattle.command_words.specs.declared.size.Size.{Size}
 use Rattle.svc_plan.specs.declared.plan.Mode.TheVariants as mode
 use Rattle.svc_value.specs.Causes.{Rose}
@@ -134,7 +134,7 @@ pub asked_for : (words : Option Command) (command : Command) (size : Size) → S
 asked_for words command size same (inl made) = inl (let e : Some command ≡ Some (Make size) = same ∙ made in cc e)
 asked_for words command size same (inr loaded) = inr (let e : Some command ≡ Some (Load size) = same ∙ loaded in cc e)
 
--- a network is handed out by `step` and `load` alone
+-- a network is handed out by `run`, `step` and `load` alone
 no_network : (network : Option NetworkView) → network ≡ None → IsSome network → ⊥
 no_network None none some = cc some
 no_network (Some network) none some = cc none
@@ -145,6 +145,7 @@ network_there words command left_old left_new held_old held_new network same don
     subst (λ (o : Option Command). IsSome network ↔ (RunsLegs o × (Done ≡ Done))) same (there command done)
   where
     there : (c : Command) → Performs c left_old left_new held_old held_new network → IsSome network ↔ (RunsLegs (Some c) × (Done ≡ Done))
+    there (Run flags) is = ((λ some. (tt, refl)), (λ both. is.1))
     there (Step flags) is = ((λ some. (tt, refl)), (λ both. is.1))
     there (Load size) is = ((λ some. (tt, refl)), (λ both. is.1))
     there Check is = ((λ some. absurd (no_network network is.1 some)), (λ both. absurd both.0))
@@ -155,6 +156,7 @@ network_there words command left_old left_new held_old held_new network same don
 -- ---- what is accepted is not refused
 
 accepted_whole : (command : Command) (read : List ℕ) (refusal : Refusal) → IsAcceptedBy command read → IsRefusedBy (Some command) read refusal → ⊥
+accepted_whole (Run flags) read refusal is refused = one_answer [] 0 mode.Plain read refusal refused is
 accepted_whole (Step flags) read refusal is refused = one_answer [] 0 mode.Step read refusal refused is
 accepted_whole Check read refusal is refused = one_answer [] 0 mode.Plain read refusal refused is
 accepted_whole Central read refusal is refused = one_answer [] 0 mode.Plain read refusal refused is

@@ -1,10 +1,13 @@
 pub mod BornLemmas
+pub mod CallLemmas
 pub mod CentralLemmas
 pub mod CountLemmas
 pub mod DueLemmas
+pub mod EndedLemmas
 pub mod EndingLemmas
 pub mod InputLemmas
 pub mod LegLemmas
+pub mod ModeLemmas
 pub mod NamedEntries
 pub mod NamedNotes
 pub mod RunLemmas

@@ -1,41 +1,31 @@
--- Step lines, one more; and the leg that they and a drain have run.
-use Rattle.std.proofs.Common.{◌≡◌, ◌∙◌, sym, ap, ap₂, subst, refl, ℕ, ◌+◌, ◌<◌, ◌≤◌, arith, ltb, Bool, true, false, List, [], ◌∷◌, ◌++◌, append-nil, append_assoc, inl, inr, All, length, length-append, map, reverse, take, slice_index_or}
-use Rattle.std.proofs.lemmas.Bool.{cases_Bool, ltb-true, ltb-false}
-use Rattle.std.proofs.lemmas.List.{get_or_past, map-append, reverse-append, take_more}
+-- Step lines, one more; and the leg that they and a drain, or threads, have run.
+use Rattle.std.proofs.Common.{◌≡◌, ◌∙◌, sym, ap, subst, refl, ℕ, ◌+◌, ◌<◌, Bool, true, false, List, [], ◌∷◌, ◌++◌, append-nil, append_assoc, All, length, map, reverse, take, slice_index_or}
+use Rattle.std.proofs.lemmas.List.{map-append, reverse-append, take_more}
 use Rattle.std.proofs.lemmas.List.Concat.{flat_map-append}
 use Rattle.std.proofs.lemmas.List.Elements.{All-append, All-cons, All-nil}
-use Rattle.propagation.specs.History.{Book, now}
 use Rattle.propagation.specs.Notes.{Step, Note, Noted}
-use Rattle.propagation.proofs.Truth.{computations_are_true}
-use Rattle.propagation.proofs.WorkBound.{work_is_bounded}
 use Rattle.service_machine.specs.Noting.{step_of}
 use Rattle.settle_core.specs.Quiet.{is_quiet}
 use Rattle.settle_core.specs.Running.{Goes}
 use Rattle.settle_core.specs.Events.{AreDeclared, event_of}
 use Rattle.settle_core.specs.Legs.{IsNetwork, IsNoted}
-use Rattle.settle_core.specs.Net.{NetworkView, unborn, service_at, start_of, rank_at}
-use Rattle.settle_core.specs.Opening.{Opened, changes_of}
-use Rattle.settle_core.proofs.LegLemmas.{none_past}
+use Rattle.settle_core.specs.Net.{NetworkView}
+use Rattle.settle_core.specs.Opening.{Opened}
+use Rattle.settle_core.specs.Workers.{SameLeg}
 use Rattle.settle_core.proofs.NotedLemmas.{notes_go_on}
-use Rattle.settle_core.proofs.OpenedLemmas.{history_after, length_coming}
-use Rattle.settle_core.proofs.QuietLemmas.{quiet_family, settled_family}
 use Rattle.settle_core.proofs.StayLemmas.{notes_stay}
-use Rattle.svc_graph.specs.declared.definition.Definition.{Definition}
-use Rattle.svc_graph.specs.History.{Row, declared_row, history_of, present}
-use Rattle.node_core.specs.Coming.{coming}
-use Rattle.node_core.specs.View.{NodeView}
+use Rattle.svc_graph.specs.History.{Row}
 use Rattle.svc_plan.specs.declared.plan.Leg.{Leg}
 use Rattle.svc_plan.specs.declared.plan.StepEvent.{StepEvent}
 use Rattle.svc_plan.specs.declared.plan.StepEvent.TheVariants.{Do, Take, Turn}
 use Rattle.svc_plan.specs.declared.plan.StepLine.{StepLine}
 use Rattle.svc_plan.specs.Rows.{rows_after, IsAmong, IsLegAfter}
-use Rattle.svc_value.specs.declared.value.Value.{Value}
-use Rattle.svc_value.specs.declared.value.ValueType.TheVariants.{Int}
 use Rattle.trace_text.specs.Blocks.{if_wanted}
 use Rattle.trace_text.specs.Named.{naming}
 use Rattle.trace_text.specs.Notes.{IsNoteOf, step_line, steps_text}
-use Rattle.qprop_cli.specs.Commands.Step.{as_step, AreNumbered, HasRun}
+use Rattle.qprop_cli.specs.Commands.Step.{as_step, AreNumbered}
 use Rattle.qprop_cli.specs.Inside.StepLines.{ordered, AreNamed, Makes, HasStepped, RunsLeg}
+use Rattle.qprop_cli.proofs.EndedLemmas.{has_run, opened_start}
 
 -- ---- the services of step lines
 
@@ -55,7 +45,7 @@ same_step (Do n) = refl
 same_step (Take n p) = refl
 same_step (Turn n) = refl
 
-wanted_none : (is_wanted : Bool) (text : List ℕ) → text ≡ text ++ if_wanted is_wanted []
+pub wanted_none : (is_wanted : Bool) (text : List ℕ) → text ≡ text ++ if_wanted is_wanted []
 wanted_none true text = sym (append-nil text)
 wanted_none false text = sym (append-nil text)
 
@@ -118,47 +108,35 @@ numbered_lines (AreNumbered.more {steps = steps} step note numbered) =
 
 -- ---- the leg that was run
 
--- a leg begins at the end of the histories before it
-pub opened_start : (old new : NetworkView) (leg : Leg) → IsLegAfter old.rows leg → Opened leg old new → (n : ℕ) → start_of new n ≡ length (history_of old.rows n)
-opened_start old new leg after opens n =
-    let history : history_of new.rows n ≡ history_of old.rows n ++ coming (present (history_of old.rows n)) (changes_of n leg.changes) = ap (λ (rs : List Row). history_of rs n) opens.rows ∙ history_after old.rows leg n after in
-    let coming_count : length (coming (present (history_of old.rows n)) (changes_of n leg.changes)) ≡ length (changes_of n leg.changes) = length_coming (present (history_of old.rows n)) (changes_of n leg.changes) in
-    let whole : length (history_of new.rows n) ≡ length (history_of old.rows n) + length (coming (present (history_of old.rows n)) (changes_of n leg.changes)) =
-    ap (λ (ds : List Definition). length ds) history ∙ length-append (history_of old.rows n) (coming (present (history_of old.rows n)) (changes_of n leg.changes)) in
-    elim (cases_Bool (ltb n (length new.services))) [
-      | inl t ↦ (let own : length (service_at new.services n).changes ≡ length (changes_of n leg.changes) = ap (λ (s : NodeView). length s.changes) (opens.each n (ltb-true n (length new.services) t)) in omega arith)
-      | inr f ↦ (let past : length new.services ≤ n = ltb-false n (length new.services) f in
-          let own : length (service_at new.services n).changes ≡ 0 = ap (λ (s : NodeView). length s.changes) (get_or_past new.services n (unborn n) past) in
-          let count : length new.services ≡ length new.rows = opens.count in
-          let none : length (history_of new.rows n) ≡ 0 = ap (λ (row : Row). length row.history) (get_or_past new.rows n (declared_row [] 0 Int) (omega arith)) in omega arith)
-    ]
-
 -- the step lines and a drain have run the leg
 pub leg_run : (is_wanted : Bool) (old opened stepped new : NetworkView) (leg : Leg) (before after : List ℕ) → IsLegAfter old.rows leg → Opened leg old opened → HasStepped is_wanted leg.steps opened stepped before after → IsNetwork stepped → Goes stepped new → IsNetwork new → is_quiet new ≡ true →
     RunsLeg is_wanted old.rows leg new before after
+unfolding has_run
 leg_run is_wanted old opened stepped new leg before after is_after opens steps was_network goes network quiet =
     let was = steps.noted.has in
     let runs = goes.runs was.leg was.low was.logs was.is in
-    let here = runs.in_leg in
-    let P : Book Value Definition → Type 0 = λ b. (n : ℕ) → 64 ≤ n → now b n ≡ 0 in
-    let bounded = work_is_bounded Value Definition was.leg (rank_at new.rows) runs.logs 64 here.accepted here.fits.legal (subst P (sym here.book) (none_past new.rows network.book.few)) in
     let same : opened.rows ≡ new.rows = sym (goes.rows ∙ steps.rows) in
     record {
-      run = record {
-        has = record { leg = was.leg; low = was.low; logs = runs.logs; is = here };
-        start = λ n. was.is.start n ∙ steps.start n ∙ opened_start old opened leg is_after opens n;
-        legal = here.fits.legal;
-        truth = λ n v S picks has. computations_are_true Value Definition was.leg (rank_at new.rows) runs.logs here.accepted here.fits.legal n v S picks has;
-        work = bounded.0;
-        carried = bounded.1;
-        lines = steps.lines;
-        lines_are = numbered_lines steps.numbered;
-        follows = notes_stay stepped new steps.lines was_network steps.noted goes;
-        quiet = quiet_family new network quiet was.leg was.low runs.logs here;
-        settled = settled_family new network quiet was.leg was.low runs.logs here;
-      };
+      run = has_run old.rows new leg network quiet was.leg was.low runs.logs runs.in_leg (λ n. was.is.start n ∙ steps.start n ∙ opened_start old opened leg is_after opens n)
+          steps.lines (numbered_lines steps.numbered) (notes_stay stepped new steps.lines was_network steps.noted goes);
       notes = steps.notes;
       numbered = steps.numbered;
       named = subst (λ (rows : List Row). All (λ (step : ℕ × Note). IsNoteOf (length rows) step.1) steps.notes) same steps.named;
       text = steps.text ∙ ap (λ (rows : List Row). before ++ if_wanted is_wanted (steps_text (naming rows) steps.notes)) same;
+    }
+
+-- and so have threads, where it has no step lines
+pub leg_threaded : (is_wanted : Bool) (old opened new : NetworkView) (leg : Leg) (text : List ℕ) → leg.steps ≡ [] → IsLegAfter old.rows leg → Opened leg old opened → IsNoted opened [] → SameLeg opened new → IsNetwork new → is_quiet new ≡ true →
+    RunsLeg is_wanted old.rows leg new text text
+unfolding has_run
+leg_threaded is_wanted old opened new leg text none is_after opens noted same network quiet =
+    let was = noted.has in
+    let now_in = same.leg was.leg was.low was.logs was.is in
+    let lines : [] ≡ reverse (map (λ (step : StepLine). as_step step.event) leg.steps) = ap (λ (steps : List StepLine). reverse (map (λ (step : StepLine). as_step step.event) steps)) (sym none) in
+    record {
+      run = has_run old.rows new leg network quiet was.leg now_in.low now_in.logs now_in.is (λ n. was.is.start n ∙ opened_start old opened leg is_after opens n) [] lines tt;
+      notes = [];
+      numbered = subst (λ (steps : List StepLine). AreNumbered steps [] []) (sym none) AreNumbered.none;
+      named = All-nil (λ (step : ℕ × Note). IsNoteOf (length new.rows) step.1);
+      text = wanted_none is_wanted text;
     }

@@ -3,9 +3,10 @@ use Rattle.std.specs.Prelude.{◌≡◌, ◌≤◌, ◌⊎◌, ℕ, List, Option
 use Rattle.std.specs.Io.KnownBytes.{Appends, Keeps}
 use Rattle.settle_core.specs.Net.{NetworkView}
 use Rattle.document_generator.specs.Generator.{generated}
+use Rattle.svc_plan.specs.declared.plan.Mode.TheVariants as mode
 use Rattle.document_reading.specs.declared.refusal.Refusal.{Refusal}
 use Rattle.command_words.specs.declared.command.Command.{Command}
-use Rattle.command_words.specs.declared.command.Command.TheVariants.{Step, Check, Central, Frames, Make, Load}
+use Rattle.command_words.specs.declared.command.Command.TheVariants.{Run, Step, Check, Central, Frames, Make, Load}
 use Rattle.svc_value.specs.Causes.{Rose}
 use Rattle.qprop_cli.specs.declared.command_error.CommandError.{CommandError}
 use Rattle.qprop_cli.specs.declared.command_error.CommandError.TheVariants.{Refused, ReadFault, WriteFault, OutOfMemory}
@@ -18,7 +19,8 @@ use Rattle.qprop_cli.specs.Outcome.{RefusesInput, AddsDue}
 
 -- what holds when the command is done; it hands out this network
 abbrev pub Performs : Command → Option (List ℕ) → Option (List ℕ) → Option (List ℕ) → Option (List ℕ) → Option NetworkView → Type 0
-Performs (Step flags) left_old left_new held_old held_new network = SettledOutput flags left_old left_new held_old held_new network × IsSome network
+Performs (Run flags) left_old left_new held_old held_new network = SettledOutput mode.Plain flags left_old left_new held_old held_new network × IsSome network
+Performs (Step flags) left_old left_new held_old held_new network = SettledOutput mode.Step flags left_old left_new held_old held_new network × IsSome network
 Performs Check left_old left_new held_old held_new network = CheckOutput left_old left_new held_old held_new × (network ≡ None)
 Performs Central left_old left_new held_old held_new network = CentralOutput left_old left_new held_old held_new × (network ≡ None)
 Performs Frames left_old left_new held_old held_new network = FramesOutput left_old left_new held_old held_new × (network ≡ None)

@@ -1,6 +1,7 @@
 pub mod Commands
 pub mod Ending
 pub mod Inside
+pub mod Laws
 pub mod Numbers
 pub mod Outcome
 pub mod Refusals

@@ -13,7 +13,7 @@ use Rattle.svc_value.specs.declared.value.Value.{Value}
 use Rattle.trace_text.specs.Settled.{Settles}
 use Rattle.wire_frame.specs.declared.frame.Frame.{Frame}
 use Rattle.command_words.specs.declared.command.Command.{Command}
-use Rattle.command_words.specs.declared.command.Command.TheVariants.{Step, Check, Central, Frames, Make, Load}
+use Rattle.command_words.specs.declared.command.Command.TheVariants.{Run, Step, Check, Central, Frames, Make, Load}
 use Rattle.command_words.specs.declared.size.Size.{Size}
 use Rattle.command_words.specs.declared.trace_flags.TraceFlags.{TraceFlags}
 use Rattle.qprop_cli.specs.Commands.Check.{accepted_line}
@@ -27,6 +27,7 @@ use Rattle.svc_value.specs.declared.limits.TheConstants.{MAX_DOCUMENT_LEN}
 
 -- what a command reads is accepted: a document, or a stream of frames; `make` and `load` read nothing
 abbrev pub IsAcceptedBy : Command → List ℕ → Type 0
+IsAcceptedBy (Run flags) bytes = IsAccepted mode.Plain bytes
 IsAcceptedBy (Step flags) bytes = IsAccepted mode.Step bytes
 IsAcceptedBy Check bytes = IsAccepted mode.Plain bytes
 IsAcceptedBy Central bytes = IsAccepted mode.Plain bytes
@@ -34,9 +35,11 @@ IsAcceptedBy Frames bytes = (frames : List Frame) × HasFrames bytes frames
 IsAcceptedBy (Make size) bytes = Unit {0}
 IsAcceptedBy (Load size) bytes = Unit {0}
 
--- the refusal of what a command reads: of a document by `step`, `check` and `central`, and of a stream of frames by `frames`; `make` and `load` read nothing
+-- the refusal of what a command reads: of a document by `run`, `step`, `check` and `central`, and of a stream of frames by `frames`; `make` and
+-- `load` read nothing
 abbrev pub IsRefusedBy : Option Command → List ℕ → Refusal → Type 0
 IsRefusedBy None bytes refusal = ⊥
+IsRefusedBy (Some (Run flags)) bytes refusal = IsRefusal mode.Plain bytes refusal
 IsRefusedBy (Some (Step flags)) bytes refusal = IsRefusal mode.Step bytes refusal
 IsRefusedBy (Some Check) bytes refusal = IsRefusal mode.Plain bytes refusal
 IsRefusedBy (Some Central) bytes refusal = IsRefusal mode.Plain bytes refusal
@@ -60,14 +63,16 @@ pub record RefusedOutput (command : Option Command) (left_old left_new held_old 
   pub input : RefusesInput command left_old left_new refusal
   pub added : Appends held_old held_new (refusal_line refusal)
 
--- the commands that run the legs of a document by its network, which they hand out: `step` and `load`
+-- the commands that run the legs of a document by its network, which they hand out: `run`, `step` and `load`
 abbrev pub RunsLegs : Option Command → Type 0
+RunsLegs (Some (Run flags)) = Unit {0}
 RunsLegs (Some (Step flags)) = Unit {0}
 RunsLegs (Some (Load size)) = Unit {0}
 RunsLegs command = ⊥
 
 -- the command writes the blocks of a document in this mode, and for these legs this text
 pub data WritesBlocks : Command → Mode → List Leg → List ℕ → Type 0 where
+  by_run : {flags : TraceFlags} {legs : List Leg} {text : List ℕ} → IsTracedText flags legs text → WritesBlocks (Run flags) mode.Plain legs text
   by_step : {flags : TraceFlags} {legs : List Leg} {text : List ℕ} → IsTracedText flags legs text → WritesBlocks (Step flags) mode.Step legs text
   by_central : {legs : List Leg} {text : List ℕ} → Settles 0 [] legs text → WritesBlocks Central mode.Plain legs text
 

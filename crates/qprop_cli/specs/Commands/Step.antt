@@ -1,4 +1,4 @@
--- The command `step`: the text that it adds and the network that it leaves.
+-- The commands `run` and `step`: the text that they add and the network that they leave.
 use Rattle.std.specs.Prelude.{◌≡◌, ℕ, suc, ◌<◌, ◌≤◌, true, List, [], ◌∷◌, ◌++◌, map, length, reverse, Option, Some, None, IfSome}
 use Rattle.std.specs.Io.KnownBytes.{Appends}
 use Rattle.propagation.specs.History.{now, Reach}
@@ -17,7 +17,7 @@ use Rattle.settle_core.specs.Values.{value_of}
 use Rattle.svc_graph.specs.Central.{AreCentral}
 use Rattle.svc_graph.specs.History.{Row, history_of, theory}
 use Rattle.svc_plan.specs.declared.plan.Leg.{Leg}
-use Rattle.svc_plan.specs.declared.plan.Mode.TheVariants as mode
+use Rattle.svc_plan.specs.declared.plan.Mode.{Mode}
 use Rattle.svc_plan.specs.declared.plan.StepEvent.{StepEvent}
 use Rattle.svc_plan.specs.declared.plan.StepEvent.TheVariants.{Do, Take, Turn}
 use Rattle.svc_plan.specs.declared.plan.StepLine.{StepLine}
@@ -26,6 +26,7 @@ use Rattle.node_core.specs.declared.entry.Entry.{Entry}
 use Rattle.node_core.specs.View.{NodeView}
 use Rattle.command_words.specs.declared.trace_flags.TraceFlags.{TraceFlags}
 use Rattle.document_reading.specs.Document.{HasLegs}
+use Rattle.svc_value.specs.declared.limits.TheConstants.{MAX_SERVICES}
 use Rattle.svc_value.specs.declared.value.Value.{Value}
 use Rattle.trace_text.specs.Blocks.{Flags, Trace}
 use Rattle.trace_text.specs.Settled.{Settles}
@@ -53,8 +54,8 @@ pub record HasRun (before : List Row) (leg : Leg) (network : NetworkView) : Type
   pub start : (n : ℕ) → has.leg.start n ≡ length (history_of before n)
   pub legal : Legal has.leg has.logs
   pub truth : (n : ℕ) (v : Value) (S : Stamps) (picks : List ℕ) → Has (has.logs n) (Computed v S picks) → TrueOf has.leg.book n (record { value = v; stamps = S }) × ((q : ℕ) → clock_of S q ≤ own has.leg q (has.logs q))
-  pub work : (n : ℕ) → computations (has.logs n) ≤ changes has.leg 64
-  pub carried : (p n e : ℕ) → values_under e (frames_sent n (has.logs p)) ≤ suc (changes has.leg 64)
+  pub work : (n : ℕ) → computations (has.logs n) ≤ changes has.leg MAX_SERVICES
+  pub carried : (p n e : ℕ) → values_under e (frames_sent n (has.logs p)) ≤ suc (changes has.leg MAX_SERVICES)
   pub lines : Noted
   pub lines_are : map (λ line. line.0) lines ≡ reverse (map (λ step. as_step step.event) leg.steps)
   pub follows : FollowsNotes has.leg has.logs lines
@@ -143,13 +144,13 @@ pub record HasTraced (legs : List Leg) (traces : List Trace) (network : NetworkV
   pub done : HasDone legs network
   pub last : EndsTraces traces network
 
--- the source was read to its end, what it gave is a document with these legs, what was added is their text with the trace lines that are
--- asked for, which without these is their settled text, and the network has done them
-pub record SettledOutput (flags : TraceFlags) (left_old left_new held_old held_new : Option (List ℕ)) (network : Option NetworkView) : Type 0 where
+-- the source was read to its end, what it gave is a document in this mode with these legs, what was added is their text with the trace
+-- lines that are asked for, which without these is their settled text, and the network has done them
+pub record SettledOutput (mode : Mode) (flags : TraceFlags) (left_old left_new held_old held_new : Option (List ℕ)) (network : Option NetworkView) : Type 0 where
   pub read : List ℕ
   pub whole : ReadsWhole left_old left_new read
   pub legs : List Leg
-  pub accepted : HasLegs mode.Step read legs
+  pub accepted : HasLegs mode read legs
   pub added : List ℕ
   pub gained : Appends held_old held_new added
   pub settles : Settles 0 [] legs (untraced added)

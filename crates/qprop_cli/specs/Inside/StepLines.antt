@@ -1,5 +1,5 @@
--- The step lines of a leg, as events of a network.
-use Rattle.std.specs.Prelude.{◌≡◌, ℕ, Bool, List, [], ◌∷◌, ◌++◌, length, All}
+-- The step lines of a leg, as events of a network; and which legs have any.
+use Rattle.std.specs.Prelude.{◌≡◌, ℕ, Bool, List, [], ◌++◌, length, All}
 use Rattle.propagation.specs.Notes.{Note, Noted}
 use Rattle.settle_core.specs.declared.event.Event.{Event}
 use Rattle.settle_core.specs.declared.event.Event.TheVariants as event
@@ -8,6 +8,8 @@ use Rattle.settle_core.specs.Legs.{IsNoted}
 use Rattle.settle_core.specs.Net.{NetworkView, start_of}
 use Rattle.svc_graph.specs.History.{Row}
 use Rattle.svc_plan.specs.declared.plan.Leg.{Leg}
+use Rattle.svc_plan.specs.declared.plan.Mode.{Mode}
+use Rattle.svc_plan.specs.declared.plan.Mode.TheVariants as mode
 use Rattle.svc_plan.specs.declared.plan.StepEvent.{StepEvent}
 use Rattle.svc_plan.specs.declared.plan.StepEvent.TheVariants.{Do, Take, Turn}
 use Rattle.svc_plan.specs.declared.plan.StepLine.{StepLine}
@@ -15,6 +17,15 @@ use Rattle.trace_text.specs.Blocks.{if_wanted}
 use Rattle.trace_text.specs.Named.{naming}
 use Rattle.trace_text.specs.Notes.{IsNoteOf, step_line, steps_text}
 use Rattle.qprop_cli.specs.Commands.Step.{AreNumbered, HasRun}
+
+-- the leg has no step lines that a document in this mode has not: in a plain one none
+abbrev pub FitsMode : Mode → Leg → Type 0
+FitsMode mode.Plain leg = leg.steps ≡ []
+FitsMode mode.Step leg = Unit {0}
+
+-- so has each of these legs
+abbrev pub AllFitMode : Mode → List Leg → Type 0
+AllFitMode of legs = All (λ leg. FitsMode of leg) legs
 
 -- the event of a network that a step line orders
 abbrev pub ordered : StepEvent → Event

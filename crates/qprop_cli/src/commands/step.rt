@@ -2,15 +2,14 @@
 ghost use Rattle.qprop_cli.specs.Ending.{Ends};
 
 mod events;
-pub(super) mod leg;
-mod legs;
-mod traces;
+pub(crate) mod leg;
 
 use crate::command_error::CommandError;
+use crate::commands::settling::legs::settle_legs;
 use crate::io::writing::WriteError;
 use crate::plan::read_plan;
 use crate::{Command, TraceFlags};
-use legs::settle_legs;
+use leg::OneThread;
 use settle_core::Network;
 use std::alloc::Global;
 use svc_plan::Mode;
@@ -18,7 +17,7 @@ use svc_value::{Sink, Source};
 
 /// Reads a document, settles it leg by leg and writes its settled text, with the trace lines that are asked for. The answer is the
 /// network after the last leg.
-#[tactic(auto, using(crate::proofs::DueLemmas::blocks_due, crate::proofs::DueLemmas::settled_output))]
+#[tactic(auto, using(crate::proofs::DueLemmas::step_blocks_due, crate::proofs::DueLemmas::settled_output))]
 pub(crate) fn step<S: Source, K: Sink>(
     alloc: Global,
     flags: TraceFlags,
@@ -33,7 +32,7 @@ pub(crate) fn step<S: Source, K: Sink>(
         Ok(plan) => plan,
         Err(error) => return Err(error),
     };
-    match settle_legs(alloc, plan.legs.as_slice(), flags, sink) {
+    match settle_legs(alloc, &OneThread, plan.legs.as_slice(), flags, sink) {
         Ok(network) => Ok(Some(network)),
         Err(WriteError::Fault) => Err(CommandError::WriteFault),
         Err(WriteError::OutOfMemory) => Err(CommandError::OutOfMemory),

@@ -1,116 +1,17 @@
-use Rattle.std.proofs.Common.{map, ap, sym, subst, ◌≡◌, ◌∙◌, inl, Some, Err}
+use Rattle.std.proofs.Common.{◌≡◌, ◌∙◌, ◌⊎◌, map, subst, sym, Option, Some}
 use Rattle.std.specs.String.{string_bytes}
-use Rattle.document_reading.specs.declared.refusal.Refusal.{Refusal}
+use Rattle.command_words.specs.declared.command.Command.{Command}
 use Rattle.command_words.specs.declared.command.Command.TheVariants as command
-use Rattle.command_words.specs.Words.{command_of}
-use Rattle.command_words.proofs.Sizes.{size_made, size_loaded}
-use Rattle.qprop_cli.specs.declared.outcome.Status.TheVariants.{Refused}
-use Rattle.qprop_cli.specs.Outcome.{RefusedOutput}
-use Rattle.qprop_cli.proofs.EndingLemmas.{refused_output, refusal_begun, keeps_behind, rose_later, performed, network_there, not_refused, asked_for}
+use Rattle.command_words.proofs.Sizes.{plain_size_made, plain_size_loaded}
 use Rattle.qprop_cli.proofs.plain.qprop_plain.Goals as goal
 
-pub perform-requires : goal.perform-requires
-perform-requires g c =
-    let case = c.in-Ok-Some in
-    record {
-      made = λ size is. size_made (map string_bytes c.args.words.now) size (sym case.ensures.command ∙ case.field-0-is ∙ ap Some is);
-      loaded = λ size is. size_loaded (map string_bytes c.args.words.now) size (sym case.ensures.command ∙ case.field-0-is ∙ ap Some is);
-    }
+pub answer-requires-clause-made_size : goal.answer-requires-clause-made_size
+answer-requires-clause-made_size g c = λ size is. plain_size_made (map string_bytes c.args.words.now) size (sym c.in-Ok.ensures.command ∙ is)
 
-pub returns-in-Ok-clause-settled : goal.returns-in-Ok-clause-settled
-returns-in-Ok-clause-settled g c = λ flags own done.
-    let case = c.in-Ok-Some in
-    (performed (command_of (map string_bytes c.args.words.now)) case.command (command.Step flags) (g.S.Source.left c.args.source.now) (g.S.Source.left c.perform.new.source) (g.K.Sink.held c.args.sink.now) (g.K.Sink.held c.perform.new.sink)
-    c.in-Ok.network (sym case.field-0-is ∙ case.ensures.command) own (rw c.in-Ok.is at c.perform.ensures.ends.done)).0
-
-pub returns-in-Ok-clause-checked : goal.returns-in-Ok-clause-checked
-returns-in-Ok-clause-checked g c = λ own done.
-    let case = c.in-Ok-Some in
-    (performed (command_of (map string_bytes c.args.words.now)) case.command command.Check (g.S.Source.left c.args.source.now) (g.S.Source.left c.perform.new.source) (g.K.Sink.held c.args.sink.now) (g.K.Sink.held c.perform.new.sink)
-    c.in-Ok.network (sym case.field-0-is ∙ case.ensures.command) own (rw c.in-Ok.is at c.perform.ensures.ends.done)).0
-
-pub returns-in-Ok-clause-central : goal.returns-in-Ok-clause-central
-returns-in-Ok-clause-central g c = λ own done.
-    let case = c.in-Ok-Some in
-    (performed (command_of (map string_bytes c.args.words.now)) case.command command.Central (g.S.Source.left c.args.source.now) (g.S.Source.left c.perform.new.source) (g.K.Sink.held c.args.sink.now) (g.K.Sink.held c.perform.new.sink)
-    c.in-Ok.network (sym case.field-0-is ∙ case.ensures.command) own (rw c.in-Ok.is at c.perform.ensures.ends.done)).0
-
-pub returns-in-Ok-clause-frames : goal.returns-in-Ok-clause-frames
-returns-in-Ok-clause-frames g c = λ own done.
-    let case = c.in-Ok-Some in
-    (performed (command_of (map string_bytes c.args.words.now)) case.command command.Frames (g.S.Source.left c.args.source.now) (g.S.Source.left c.perform.new.source) (g.K.Sink.held c.args.sink.now) (g.K.Sink.held c.perform.new.sink)
-    c.in-Ok.network (sym case.field-0-is ∙ case.ensures.command) own (rw c.in-Ok.is at c.perform.ensures.ends.done)).0
-
-pub returns-in-Ok-clause-made : goal.returns-in-Ok-clause-made
-returns-in-Ok-clause-made g c = λ size own done.
-    let case = c.in-Ok-Some in
-    (performed (command_of (map string_bytes c.args.words.now)) case.command (command.Make size) (g.S.Source.left c.args.source.now) (g.S.Source.left c.perform.new.source) (g.K.Sink.held c.args.sink.now) (g.K.Sink.held c.perform.new.sink)
-    c.in-Ok.network (sym case.field-0-is ∙ case.ensures.command) own (rw c.in-Ok.is at c.perform.ensures.ends.done)).0
-
-pub returns-in-Ok-clause-loaded : goal.returns-in-Ok-clause-loaded
-returns-in-Ok-clause-loaded g c = λ size own done.
-    let case = c.in-Ok-Some in
-    (performed (command_of (map string_bytes c.args.words.now)) case.command (command.Load size) (g.S.Source.left c.args.source.now) (g.S.Source.left c.perform.new.source) (g.K.Sink.held c.args.sink.now) (g.K.Sink.held c.perform.new.sink)
-    c.in-Ok.network (sym case.field-0-is ∙ case.ensures.command) own (rw c.in-Ok.is at c.perform.ensures.ends.done)).0
+pub answer-requires-clause-loaded_size : goal.answer-requires-clause-loaded_size
+answer-requires-clause-loaded_size g c = λ size is. plain_size_loaded (map string_bytes c.args.words.now) size (sym c.in-Ok.ensures.command ∙ is)
 
 pub returns-in-Ok-clause-unread : goal.returns-in-Ok-clause-unread
 returns-in-Ok-clause-unread g c = λ size words.
-    let case = c.in-Ok-Some in
-    c.perform.ensures.unread size (asked_for (command_of (map string_bytes c.args.words.now)) case.command size (sym case.field-0-is ∙ case.ensures.command) words)
-
-pub returns-in-Err-ReadFault-clause-unread : goal.returns-in-Err-ReadFault-clause-unread
-returns-in-Err-ReadFault-clause-unread g c = λ size words.
-    let case = c.in-Ok-Some in
-    c.perform.ensures.unread size (asked_for (command_of (map string_bytes c.args.words.now)) case.command size (sym case.field-0-is ∙ case.ensures.command) words)
-
-pub returns-in-Err-WriteFault-clause-unread : goal.returns-in-Err-WriteFault-clause-unread
-returns-in-Err-WriteFault-clause-unread g c = λ size words.
-    let case = c.in-Ok-Some in
-    c.perform.ensures.unread size (asked_for (command_of (map string_bytes c.args.words.now)) case.command size (sym case.field-0-is ∙ case.ensures.command) words)
-
-pub returns-in-Err-OutOfMemory-clause-unread : goal.returns-in-Err-OutOfMemory-clause-unread
-returns-in-Err-OutOfMemory-clause-unread g c = λ size words.
-    let case = c.in-Ok-Some in
-    c.perform.ensures.unread size (asked_for (command_of (map string_bytes c.args.words.now)) case.command size (sym case.field-0-is ∙ case.ensures.command) words)
-
-pub returns-in-Ok-clause-network : goal.returns-in-Ok-clause-network
-returns-in-Ok-clause-network g c =
-    let case = c.in-Ok-Some in
-    network_there (command_of (map string_bytes c.args.words.now)) case.command (g.S.Source.left c.args.source.now) (g.S.Source.left c.perform.new.source) (g.K.Sink.held c.args.sink.now) (g.K.Sink.held c.perform.new.sink)
-    c.in-Ok.network (sym case.field-0-is ∙ case.ensures.command) (rw c.in-Ok.is at c.perform.ensures.ends.done)
-
-pub returns-in-Err-Refused-clause-refused : goal.returns-in-Err-Refused-clause-refused
-returns-in-Err-Refused-clause-refused g c = λ told is.
-    let case = c.in-Ok-Some in
-    let refusal = c.in-Err-Refused.refusal in
-    let error = c.in-Err-Refused.is ∙ ap Err c.in-Err-Refused.field-0-is in
-    let one : told ≡ refusal = c.refuse.ensures.refusal told is in
-    let P : Refusal → Type 0 = λ r. RefusedOutput (command_of (map string_bytes c.args.words.now)) (g.S.Source.left c.args.source.now) (g.S.Source.left c.perform.new.source) (g.K.Sink.held c.args.sink.now) (g.K.Sink.held c.refuse.new.sink) r in
-    subst P (sym one)
-    (refused_output (command_of (map string_bytes c.args.words.now)) case.command (sym case.field-0-is ∙ case.ensures.command) (g.S.Source.left c.args.source.now) (g.S.Source.left c.perform.new.source) (g.K.Sink.held c.args.sink.now) (g.K.Sink.held c.perform.new.sink) (g.K.Sink.held c.refuse.new.sink)
-    refusal (c.perform.ensures.ends.refused refusal error) (c.perform.ensures.ends.unanswered refusal error) (c.refuse.ensures.written (is ∙ ap Refused one)))
-
-pub returns-in-Err-Refused-clause-write_fault : goal.returns-in-Err-Refused-clause-write_fault
-returns-in-Err-Refused-clause-write_fault g c = λ is.
-    rose_later (g.K.Sink.faults c.args.sink.now) (g.K.Sink.faults c.perform.new.sink) (g.K.Sink.faults c.refuse.new.sink) c.perform.ensures.ends.later (c.refuse.ensures.fault is)
-
-pub returns-in-Err-Refused-clause-begun : goal.returns-in-Err-Refused-clause-begun
-returns-in-Err-Refused-clause-begun g c = λ is.
-    let case = c.in-Ok-Some in
-    let refusal = c.in-Err-Refused.refusal in
-    let error = c.in-Err-Refused.is ∙ ap Err c.in-Err-Refused.field-0-is in
-    refusal_begun (command_of (map string_bytes c.args.words.now)) case.command (sym case.field-0-is ∙ case.ensures.command) (g.S.Source.left c.args.source.now) (g.S.Source.left c.perform.new.source) (g.K.Sink.held c.args.sink.now) (g.K.Sink.held c.perform.new.sink) (g.K.Sink.held c.refuse.new.sink)
-    refusal (c.perform.ensures.ends.refused refusal error) (c.perform.ensures.ends.unanswered refusal error) (c.refuse.ensures.begun is)
-
-pub returns-in-Err-Refused-clause-memory : goal.returns-in-Err-Refused-clause-memory
-returns-in-Err-Refused-clause-memory g c = λ is.
-    let refusal = c.in-Err-Refused.refusal in
-    let error = c.in-Err-Refused.is ∙ ap Err c.in-Err-Refused.field-0-is in
-    inl (keeps_behind (g.K.Sink.held c.args.sink.now) (g.K.Sink.held c.perform.new.sink) (g.K.Sink.held c.refuse.new.sink) (c.perform.ensures.ends.unanswered refusal error) (c.refuse.ensures.nothing is))
-
-pub returns-in-Err-Refused-clause-complete : goal.returns-in-Err-Refused-clause-complete
-returns-in-Err-Refused-clause-complete g c = λ own read is left accepted no_read no_write.
-    let case = c.in-Ok-Some in
-    let refusal = c.in-Err-Refused.refusal in
-    let error = c.in-Err-Refused.is ∙ ap Err c.in-Err-Refused.field-0-is in
-    absurd (not_refused (command_of (map string_bytes c.args.words.now)) case.command own read (g.S.Source.left c.args.source.now) (g.S.Source.left c.perform.new.source) refusal (sym case.field-0-is ∙ case.ensures.command) is left accepted (c.perform.ensures.ends.refused refusal error))
+    let P : Option Command → Type 0 = λ asked. (asked ≡ Some (command.Make size)) ⊎ (asked ≡ Some (command.Load size)) in
+    c.answer.ensures.unread size (subst P (sym c.in-Ok.ensures.command) words)

@@ -1,13 +1,35 @@
-// One leg, run.
+// One leg, run on one thread.
 ghost use Rattle.std.specs.Prelude.{◌≡◌, true, OnOk};
 ghost use Rattle.settle_core.specs.Quiet.{is_quiet};
 ghost use Rattle.svc_plan.specs.Rows.{rows_after, IsLegAfter};
+ghost use Rattle.svc_plan.specs.declared.plan.Mode.TheVariants.{Step};
 ghost use Rattle.qprop_cli.specs.Inside.StepLines.{RunsLeg};
 
 use super::events::make_steps;
+use crate::commands::settling::runner::LegRunner;
 use settle_core::Network;
 use svc_plan::Leg;
 use svc_value::OutOfMemory;
+
+/// Runs legs by the events of their step lines, and then by a drain.
+#[derive(Drop)]
+pub(crate) struct OneThread;
+
+impl LegRunner for OneThread {
+    ghost mode = { Step };
+
+    ghost can_run = { λ _. Unit {0} };
+
+    fn run_leg(
+        &self,
+        network: &mut Network,
+        leg: &Leg,
+        is_noted: bool,
+        out: &mut Vec<u8>,
+    ) -> Result<(), OutOfMemory> {
+        run_leg(network, leg, is_noted, out)
+    }
+}
 
 /// Runs a leg: opens it, makes the events of its step lines, and drains. The lines of their notes are appended to `out`, if they are
 /// wanted.

@@ -1,15 +1,14 @@
-use Rattle.std.proofs.Common.{◌≡◌, ◌∙◌, ◌++◌, sym, ap, subst, List, ℕ, []}
-use Rattle.svc_graph.specs.Central.{AreCentral}
+use Rattle.std.proofs.Common.{◌∙◌, ◌++◌, ap, subst, List, ℕ}
 use Rattle.svc_graph.specs.History.{Row}
 use Rattle.svc_value.specs.declared.value.Value.{Value}
 use Rattle.trace_text.specs.Settled.{settled_block}
 use Rattle.qprop_cli.specs.Inside.StepLines.{RunsLeg}
 use Rattle.qprop_cli.proofs.RunLemmas.{if_answer}
 use Rattle.qprop_cli.proofs.TraceLemmas.{traced_block}
-use Rattle.qprop_cli.proofs.commands.step.legs.settle_leg.Goals as goal
+use Rattle.qprop_cli.proofs.commands.settling.legs.settle_leg.Goals as goal
 
 pub returns-clause-block : goal.returns-clause-block
-returns-clause-block c =
+returns-clause-block g c =
     let network = c.run_leg.new.network in
     let P : List ℕ → Type 0 = λ text. RunsLeg c.args.flags.trace c.args.network.now.rows c.args.leg.now network text c.run_leg.new.out.items in
     if_answer c.settled_text.result _ _ (λ block.

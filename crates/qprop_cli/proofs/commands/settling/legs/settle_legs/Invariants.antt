@@ -1,6 +1,6 @@
 use Rattle.std.proofs.Common.{◌≤◌, take}
 use Rattle.qprop_cli.specs.Inside.Blocks.{AddsTraced}
-use Rattle.qprop_cli.proofs.commands.step.legs.settle_legs.Given as goal
+use Rattle.qprop_cli.proofs.commands.settling.legs.settle_legs.Given as goal
 
 abbrev pub invariant-loop-i : goal.invariant-loop-i
 invariant-loop-i g l =

@@ -7,7 +7,7 @@ use Rattle.trace_text.specs.Lines.{log_text}
 use Rattle.trace_text.specs.Named.{naming, NamesBelow}
 use Rattle.qprop_cli.proofs.NamedEntries.{entries_named}
 use Rattle.qprop_cli.proofs.TraceLemmas.{log_more}
-use Rattle.qprop_cli.proofs.commands.step.traces.append_logs.Goals as goal
+use Rattle.qprop_cli.proofs.commands.settling.traces.append_logs.Goals as goal
 
 pub trace_text-requires-clause-named : goal.trace_text-requires-clause-named
 trace_text-requires-clause-named c =

@@ -8,7 +8,7 @@ use Rattle.trace_text.specs.Notes.{sources_line}
 use Rattle.trace_text.specs.Named.{naming, KeysBelow}
 use Rattle.qprop_cli.specs.Commands.Step.{sources_of}
 use Rattle.qprop_cli.proofs.TraceLemmas.{lent_some, lent_stamps, source, source_more}
-use Rattle.qprop_cli.proofs.commands.step.traces.append_sources.Goals as goal
+use Rattle.qprop_cli.proofs.commands.settling.traces.append_sources.Goals as goal
 
 pub unwrap-stamps-requires : goal.unwrap-stamps-requires
 unwrap-stamps-requires c =
