@@ -1,7 +1,8 @@
 //! The program: the top call with the words of the process, its standard input and its standard output.
 #![tactic(auto)]
 
-use qprop_cli::{Status, qprop_plain};
+use node_threads::NoGate;
+use qprop_cli::{Status, qprop};
 use std::env;
 use std::io::{self, ErrorKind};
 use std::process::ExitCode;
@@ -30,6 +31,6 @@ fn main(rt: HostRuntime) -> ExitCode {
     };
     let mut source = StdSource::new(rt.stdin());
     let mut sink = StdSink::new(rt.stdout());
-    let outcome = qprop_plain(rt.alloc(), &words, &mut source, &mut sink);
+    let outcome = qprop(&rt, rt.alloc(), &words, &mut source, &mut sink, &NoGate);
     ExitCode::from(outcome.status.exit_status())
 }
