@@ -93,16 +93,22 @@ def rewired(draws, names, inputs, derived, members):
     return lines + [f"set i{draws.below(inputs)} = {draws.below(1000)}" for _ in range(4)]
 
 
-def legs(count):
-    """Legs of one new value each, in a network of 64 services of which it reaches a part."""
+def drawn(inputs, derived, legs, changes):
+    """A network whose services read two others, drawn from those before them; so many new values in each leg."""
     draws = Draws(5)
-    births = [f"input i{k} : int = {k}" for k in range(16)]
-    names = [f"i{k}" for k in range(16)]
-    for j in range(48):
+    births = [f"input i{k} : int = {k}" for k in range(inputs)]
+    names = [f"i{k}" for k in range(inputs)]
+    for j in range(derived):
         a, b = (names[draws.below(len(names))] for _ in range(2))
         births.append(f"derived d{j} : int rank {j + 1} = {a} - {b}")
         names.append(f"d{j}")
-    return settled(births, [[f"set i{leg % 16} = {draws.below(1000)}"] for leg in range(2, count + 1)])
+    values = lambda leg: [f"set i{(leg * changes + k) % inputs} = {draws.below(1000)}" for k in range(changes)]
+    return settled(births, [values(leg) for leg in range(2, legs + 1)])
+
+
+def legs(count):
+    """Legs of one new value each, in a network of 64 services of which it reaches a part."""
+    return drawn(16, 48, count, 1)
 
 
 DOCUMENTS = {
@@ -115,6 +121,10 @@ DOCUMENTS = {
     "legs_1": lambda: legs(1),
     "legs_100": lambda: legs(100),
     "legs_1000": lambda: legs(1000),
+    "busy_8": lambda: drawn(3, 5, 300, 64),
+    "busy_64": lambda: drawn(16, 48, 200, 64),
+    "small_8": lambda: drawn(3, 5, 300, 1),
+    "small_64": lambda: drawn(16, 48, 200, 1),
 }
 
 

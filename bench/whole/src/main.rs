@@ -1,4 +1,4 @@
-//! The protocol of qprop in plain Rust, to measure the proved program against: `step` and `check` on the same documents, with the same output.
+//! The protocol of qprop in plain Rust, to measure the proved program against: `step`, `run` and `check` on the same documents, with the same output.
 #[cfg_attr(feature = "kept", path = "choice_kept.rs")]
 mod choice;
 mod document;
@@ -8,6 +8,8 @@ mod keys;
 mod lines;
 mod network;
 mod node;
+mod ring;
+mod threads;
 mod tokens;
 mod trace;
 mod value;
@@ -39,35 +41,40 @@ impl Output {
     }
 }
 
+/// The command that the words name, and whether it keeps logs and writes trace lines.
+fn command_of<'a>(words: &[&'a str]) -> Option<(&'a str, bool, bool)> {
+    match *words {
+        ["check"] => Some(("check", false, false)),
+        [command @ ("step" | "run")] => Some((command, false, false)),
+        [command @ ("step" | "run"), "--log"] => Some((command, true, false)),
+        [command @ ("step" | "run"), "--trace"] => Some((command, true, true)),
+        _ => None,
+    }
+}
+
 fn main() {
     let words: Vec<String> = std::env::args().skip(1).collect();
     let words: Vec<&str> = words.iter().map(String::as_str).collect();
-    let (step, log, trace) = match words[..] {
-        ["check"] => (false, false, false),
-        ["step"] => (true, false, false),
-        ["step", "--log"] => (true, true, false),
-        ["step", "--trace"] => (true, true, true),
-        _ => {
-            println!("usage: plain step [--log|--trace] | check");
-            exit(1);
-        }
+    let Some((command, log, trace)) = command_of(&words) else {
+        println!("usage: plain step [--log|--trace] | run [--log|--trace] | check");
+        exit(1);
     };
     let mut bytes = Vec::with_capacity(1 << 20);
     if std::io::stdin().lock().take(LONGEST + 1).read_to_end(&mut bytes).is_err() {
         exit(3);
     }
-    let plan = match document::read_document(&bytes, step) {
+    let plan = match document::read_document(&bytes, command == "step") {
         Ok(plan) => plan,
         Err(refusal) => {
             println!("refused {} E{:02}", refusal.line, refusal.code);
             exit(2);
         }
     };
-    if !step {
-        println!("accepted services={} changes={} settles={}", plan.services.len(), plan.changes, plan.legs.len());
-        return;
-    }
     let mut output = Output { text: Vec::with_capacity(1 << 17) };
-    network::step(plan, log, trace, &mut output);
+    match command {
+        "step" => network::step(plan, log, trace, &mut output),
+        "run" => threads::run(plan, log, trace, &mut output),
+        _ => println!("accepted services={} changes={} settles={}", plan.services.len(), plan.changes, plan.legs.len()),
+    }
     output.flush();
 }

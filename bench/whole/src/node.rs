@@ -145,6 +145,15 @@ impl Node {
         self.changes.push_back(change);
     }
 
+    pub fn has_changes(&self) -> bool {
+        !self.changes.is_empty()
+    }
+
+    /// The services that it reads.
+    pub fn dependencies(&self) -> impl Iterator<Item = u16> + '_ {
+        self.slots.iter().map(|slot| slot.sender)
+    }
+
     /// True where a turn may do something though nothing comes in.
     pub fn turn_wanted(&self) -> bool {
         self.due || self.slots.iter().any(|slot| !slot.queue.is_empty())
