@@ -103,7 +103,7 @@ wired_send : IsSend (wired.the_field).row
 wired_send = let n : IsSend node.the_row = node_send in search (sendable, crosses, out.the_field_send, into.the_field_send, list.the_send) depth 20
 
 pub worker_send : IsSend (worker.the_field).row
-worker_send = let w : IsSend (wired.the_field).row = wired_send in search (sendable, id.the_send) depth 20
+worker_send = let w : IsSend (wired.the_field).row = wired_send in search (sendable, crosses, id.the_send) depth 20
 
 pub done_send : IsSend (done.the_field).row
 done_send = let w : IsSend (worker.the_field).row = worker_send in search (sendable, out_of_memory.the_field_send) depth 20

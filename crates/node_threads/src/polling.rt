@@ -7,20 +7,23 @@ use crate::turning::take_turn;
 use settle_core::Worker;
 use std::sync::atomic::{AtomicU64, Ordering};
 use std::thread;
+use svc_value::OutOfMemory;
 use svc_value::limits::MAX_SERVICES;
-use svc_value::{OutOfMemory, ServiceId};
 
 // So many idle polls in a row end the polls.
 const MAX_IDLE_POLLS: u32 = 10_000;
 
-// Takes at most one frame from each ring; true where one was taken.
+// Takes at most one frame from each ring, peer after peer; true where one was taken.
 #[tactic(auto, using(settle_core::proofs::GoingLemmas::goes_on_refl))]
 fn take_each(worker: &mut Worker, shift: &mut Shift) -> Result<bool, OutOfMemory>
     ensures { GoesOn worker.old worker.new }
 {
     let mut is_taken = false;
-    for number in 0..MAX_SERVICES {
-        if worker.take_from(ServiceId(number as u16))? {
+    for place in 0..MAX_SERVICES {
+        let Some(peer) = worker.peer(place) else {
+            return Ok(is_taken);
+        };
+        if worker.take_from(peer)? {
             shift.note_taken();
             is_taken = true;
         }

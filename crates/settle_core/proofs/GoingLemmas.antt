@@ -1,5 +1,5 @@
 -- Workers go on: what each call leaves of the leg and of the rings.
-use Rattle.std.proofs.Common.{◌≡◌, ◌≢◌, ℕ, ◌<◌, List, Option, Some, None, Result, Ok, Err, OnOk, OnErr, true, refl, sym, ap, subst, ◌∙◌, ◌==◌, inl, inr, eqb-true}
+use Rattle.std.proofs.Common.{◌≡◌, ◌≢◌, ℕ, ◌<◌, Result, Ok, Err, OnOk, OnErr, true, refl, sym, subst, ◌∙◌, ◌==◌, inl, inr, eqb-true}
 use Rattle.std.proofs.lemmas.Bool.{cases_Bool, eqb-false}
 use Rattle.std.proofs.Math.Logic.{∥∥₁_elim, ∥∥₁_map}
 use Rattle.std.proofs.Props.{props}
@@ -10,17 +10,15 @@ use Rattle.service_machine.proofs.NodeTurns.{nodes_stop}
 use Rattle.svc_graph.specs.declared.definition.Definition.{Definition}
 use Rattle.svc_graph.specs.History.{dependencies, meaning_of}
 use Rattle.svc_value.specs.declared.value.Value.{Value}
-use Rattle.node_core.specs.Legs.{StaysInLeg, OpensWith}
-use Rattle.node_core.specs.Lives.{IsReached}
-use Rattle.node_core.specs.Taking.{Takes}
+use Rattle.node_core.specs.Legs.{StaysInLeg}
 use Rattle.node_core.specs.View.{NodeView, Grows}
-use Rattle.node_core.proofs.LegLemmas.{changes_stay, takes_stay, turns_stay, handing_stays}
+use Rattle.node_core.proofs.LegLemmas.{changes_stay, turns_stay}
 use Rattle.node_core.proofs.LivesLemmas.{reached_keeps}
 use Rattle.settle_core.specs.declared.wired.WiredNode.{WiredNode}
 use Rattle.settle_core.specs.declared.worker.Worker.{Worker}
 use Rattle.settle_core.specs.Inside.Working.{to_of, from_of, held_of, IsOf, IsWorker}
-use Rattle.settle_core.specs.Rings.{SameTo, SameFrom}
-use Rattle.settle_core.specs.Workers.{node_of, end_to, end_from, GoesOn, SameEnds}
+use Rattle.settle_core.specs.Rings.{SameTo}
+use Rattle.settle_core.specs.Workers.{node_of, end_to, end_from, GoesOn}
 use Rattle.settle_core.proofs.ReachedLemmas.{reached_stays, stays_same, stays_trans}
 use Rattle.settle_core.proofs.RingLemmas.{same_to_refl, same_to_is, same_to_trans, same_from_refl, same_from_is, same_from_trans}
 use Rattle.settle_core.proofs.WorkerLemmas.{worker_did, worker_turned, worker_same}

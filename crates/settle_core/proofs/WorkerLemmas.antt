@@ -7,7 +7,7 @@ use Rattle.propagation.specs.Lists.{Has}
 use Rattle.propagation.specs.Logs.{Entry as TheEntry, Frame, frames_sent, frames_taken, reply}
 use Rattle.propagation.specs.Logs.Entry.{Took as TheTook}
 use Rattle.propagation.specs.Logs.Frame.{Subscribe, Unsubscribe, Sources, Changed}
-use Rattle.propagation.proofs.Lists.{Has-append_left, Has-append_right, Has-append_cases}
+use Rattle.propagation.proofs.Lists.{Has-append_cases}
 use Rattle.service_machine.specs.States.{Reader, State, services, edges_to, dropped, all_told}
 use Rattle.service_machine.specs.Steps.{after_changing, after_taking, after_turning, choice_of, done_log, done_with, targets, took_log, turn_log, turned_to, after_computing}
 use Rattle.service_machine.specs.Turning.{Choice}
@@ -29,7 +29,7 @@ use Rattle.settle_core.specs.Inside.Working.{to_of, from_of, held_of, SpeaksTo, 
 use Rattle.settle_core.specs.Net.{took_from}
 use Rattle.settle_core.specs.Rings.{handed_to, received_from}
 use Rattle.settle_core.proofs.ActingLemmas.{took_append}
-use Rattle.settle_core.proofs.BoundLemmas.{Within, has_or, next_names, next_has, turn_within, done_within, to_other}
+use Rattle.settle_core.proofs.BoundLemmas.{has_or, next_names, next_has, turn_within, done_within, to_other}
 use Rattle.settle_core.proofs.NodeLemmas.{outgoing_waits, sent_count, took_none}
 use Rattle.settle_core.proofs.TakeLemmas.{took_this, took_other}
 

@@ -1,5 +1,5 @@
 -- Ends of rings that there may be.
-use Rattle.std.specs.Prelude.{ℕ, List, [], Option, None, Some}
+use Rattle.std.specs.Prelude.{ℕ, ◌+◌, List, [], ◌∷◌, Option, None, Some}
 use Rattle.link_fifo.specs.Ends.{items_sent, items_received, OneStream, SameWriter, SameReader}
 use Rattle.link_fifo.specs.declared.piece_in.PieceIn.{PieceIn}
 use Rattle.link_fifo.specs.declared.piece_out.PieceOut.{PieceOut}
@@ -13,6 +13,12 @@ handed_to (Some end) = items_sent end
 abbrev pub received_from : Option PieceIn → List (List ℕ)
 received_from None = []
 received_from (Some end) = items_received end
+
+-- the numbers of the places that have an end, rising; the first place has this number
+abbrev pub ringed : ℕ → List (Option PieceOut) → List ℕ
+ringed k [] = []
+ringed k (None ∷ ends) = ringed (k + 1) ends
+ringed k (Some end ∷ ends) = k ∷ ringed (k + 1) ends
 
 -- the two ends of one ring, or none
 abbrev pub IsTied : Option PieceOut → Option PieceIn → Type 0

@@ -23,7 +23,7 @@ use Rattle.settle_core.specs.declared.crew.Crew.{Crew}
 use Rattle.settle_core.specs.declared.worker.Worker.{Worker}
 use Rattle.settle_core.specs.Legs.{InLeg}
 use Rattle.settle_core.specs.Net.{NetworkView, service_at}
-use Rattle.settle_core.specs.Rings.{IsTied, SameTo, SameFrom}
+use Rattle.settle_core.specs.Rings.{ringed, IsTied, SameTo, SameFrom}
 
 -- ---- one worker
 
@@ -38,6 +38,10 @@ end_to q worker = slice_index_or worker.wired.to.items q None
 -- the end of the ring from service p, if there is one
 abbrev pub end_from : ℕ → Worker → Option PieceIn
 end_from p worker = slice_index_or worker.wired.from.items p None
+
+-- the peers of a worker: the services to which it has a ring, rising
+abbrev pub peers_of : Worker → List ℕ
+peers_of worker = ringed 0 worker.wired.to.items
 
 -- each end belongs to the same ring as before
 pub record SameEnds (old new : Worker) : Type 0 where

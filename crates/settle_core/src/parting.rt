@@ -6,6 +6,7 @@ ghost use Rattle.svc_graph.specs.History.{dependencies, history_of};
 ghost use Rattle.svc_graph.specs.Lent.{definition_lent};
 ghost use Rattle.settle_core.specs.Inside.Parting.{ArePaired, AreRead, AreUnwired, AreWorkers, HasParts, IsServed, IsUnwired, Lays, LaysAll, LaysRing, ReadWithin, MoreRings};
 ghost use Rattle.settle_core.specs.Inside.Working.{to_in, wired_nodes};
+ghost use Rattle.settle_core.specs.Rings.{ringed};
 ghost use Rattle.settle_core.specs.Workers.{nodes_of, AreTied};
 
 use crate::Worker;
@@ -173,6 +174,20 @@ fn lay_rings(alloc: Global, book: &Book, all: &mut Vec<WiredNode>) -> Result<(),
     Ok(())
 }
 
+// The numbers of the places that have a ring end.
+fn ringed(alloc: Global, ends: &[Option<PieceOut>]) -> Result<Vec<ServiceId>, OutOfMemory>
+    requires { length ends.now ≤ MAX_SERVICES }
+    ensures { IfOk result (λ peers. peers.items ≡ ringed 0 ends.now) }
+{
+    let mut peers = Vec::new(alloc);
+    for number in 0..ends.len() {
+        if ends[number].is_some() {
+            peers.push(ServiceId(number as u16))?;
+        }
+    }
+    Ok(peers)
+}
+
 // The wired nodes as workers.
 fn workers_of(alloc: Global, all: Vec<WiredNode>) -> Result<Vec<Worker>, OutOfMemory>
     requires few { length all.items ≤ MAX_SERVICES }
@@ -182,9 +197,11 @@ fn workers_of(alloc: Global, all: Vec<WiredNode>) -> Result<Vec<Worker>, OutOfMe
     let mut workers = Vec::with_capacity(alloc, all.len())?;
     let mut number = 0u16;
     for wired in all {
+        let peers = ringed(alloc, wired.to.as_slice())?;
         workers.push(Worker {
             id: ServiceId(number),
             wired,
+            peers,
         })?;
         number += 1;
     }

@@ -1,5 +1,5 @@
 // What a worker does.
-ghost use Rattle.std.specs.Prelude.{◌≡◌, ◌≢◌, ◌<◌, ℕ, length, IfOk, OnOk, OnErr, IsTrue, IsFalse, true, false, []};
+ghost use Rattle.std.specs.Prelude.{◌≡◌, ◌≢◌, ◌<◌, ℕ, length, slice_get, slice_index_or, IfOk, IfSome, OnOk, OnErr, IsTrue, IsFalse, true, false, []};
 ghost use Rattle.service_machine.specs.Draining.{is_work, turns_left};
 ghost use Rattle.service_machine.specs.Steps.{choice_of};
 ghost use Rattle.node_core.specs.Answers.{IsAnswer};
@@ -14,8 +14,15 @@ use std::sync::atomic::AtomicU64;
 use svc_value::limits::MAX_SERVICES;
 use svc_value::{OutOfMemory, ServiceId};
 
+// The number at a place of these, if there is one.
+fn peer_in(peers: &[ServiceId], place: usize) -> Option<ServiceId>
+    ensures { result ≡ slice_get peers.now place }
+{
+    peers.get(place).copied()
+}
+
 impl Worker {
-    ghost use Rattle.settle_core.specs.Workers.{node_of, GoesOn, HasHandedOver};
+    ghost use Rattle.settle_core.specs.Workers.{node_of, peers_of, GoesOn, HasHandedOver};
 
     /// The number of the service.
     pub fn id(&self) -> ServiceId {
@@ -27,6 +34,24 @@ impl Worker {
         ensures { result.now ≡ node_of self.now }
     {
         &self.wired.node
+    }
+
+    /// The peer at `place`, counted from 0; `None` exactly past the last one. The peers are the services to which the worker has a
+    /// ring, in the order of their numbers. Whatever calls are made, they stay the same.
+    pub fn peer(&self, place: usize) -> Option<ServiceId>
+        ensures at { result ≡ slice_get (peers_of self.now) place }
+        ensures few { IfSome result (λ peer. peer < MAX_SERVICES) }
+    {
+        peer_in(self.peers.as_slice(), place)
+    }
+
+    // The peer at a place that there is.
+    fn peer_at(&self, place: usize) -> ServiceId
+        requires { place < length self.now.peers.items }
+        ensures at { result ≡ slice_index_or self.now.peers.items place result }
+        ensures few { result < MAX_SERVICES }
+    {
+        self.peers[place]
     }
 
     /// Does the next change of the leg; false exactly where none is left. `OutOfMemory` only when memory runs out; then the worker is
@@ -103,8 +128,9 @@ impl Worker {
         ensures handed { HasHandedOver self.new }
     {
         let mut is_moved = false;
-        for number in 0..MAX_SERVICES {
-            if self.hand_over_to(ServiceId(number as u16), hint) {
+        for place in 0..self.peers.len() {
+            let peer = self.peer_at(place);
+            if self.hand_over_to(peer, hint) {
                 is_moved = true;
             }
         }
@@ -116,6 +142,7 @@ impl Worker {
         requires { to < MAX_SERVICES }
         ensures goes_on { GoesOn self.old self.new }
         ensures state { (node_of self.new).state ≡ (node_of self.old).state }
+        ensures peers { self.new.peers.items ≡ self.old.peers.items }
         ensures others { OthersKept to self.old self.new }
         ensures handed { IsHandedTo to self.new }
     {

@@ -1,4 +1,3 @@
-use Rattle.std.proofs.Common.{◌≡◌, length}
 use Rattle.settle_core.specs.Inside.Parting.{AreUnwired}
 use Rattle.settle_core.proofs.parting.all_unwired.Given as goal
 

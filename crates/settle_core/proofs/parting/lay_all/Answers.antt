@@ -1,4 +1,4 @@
-use Rattle.std.proofs.Common.{◌≡◌, ◌<◌, List, ℕ, length, take, subst, arith}
+use Rattle.std.proofs.Common.{List, ℕ, take, subst, arith}
 use Rattle.settle_core.specs.Inside.Parting.{LaysAll}
 use Rattle.settle_core.proofs.PartLemmas.{lays_more}
 use Rattle.settle_core.proofs.TableLemmas.{has_item, take_next}

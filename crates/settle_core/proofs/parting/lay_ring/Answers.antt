@@ -1,4 +1,4 @@
-use Rattle.std.proofs.Common.{refl, ◌∙◌, ◌≡◌, ◌<◌, ◌≤◌, length, arith}
+use Rattle.std.proofs.Common.{refl, ◌∙◌, ◌≡◌, arith}
 use Rattle.settle_core.proofs.PartLemmas.{one_stream, ring_laid}
 use Rattle.settle_core.proofs.parting.lay_ring.Goals as goal
 

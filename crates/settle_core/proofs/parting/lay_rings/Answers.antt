@@ -1,4 +1,4 @@
-use Rattle.std.proofs.Common.{◌≡◌, ◌<◌, ◌+◌, ℕ, List, length, subst, sym, arith, ◌∙◌}
+use Rattle.std.proofs.Common.{◌≡◌, ◌<◌, ℕ, List, length, subst, arith, ◌∙◌}
 use Rattle.propagation.specs.Lists.{Has}
 use Rattle.svc_graph.specs.History.{history_of}
 use Rattle.settle_core.specs.Inside.Parting.{IsServed, LaysAll}

@@ -1,11 +1,9 @@
-use Rattle.std.proofs.Common.{◌≡◌, ◌≤◌, ◌<◌, ℕ, List, length, map, sym, ap, subst, arith, ◌∙◌, Vec, Global}
+use Rattle.std.proofs.Common.{◌≡◌, ◌≤◌, List, length, ap, arith, ◌∙◌, Vec, Global}
 use Rattle.std.proofs.lemmas.Result.{IfOk-weaker}
-use Rattle.node_core.specs.View.{NodeView}
 use Rattle.settle_core.specs.Inside.Working.{wired_nodes}
 use Rattle.settle_core.specs.declared.wired.WiredNode.{WiredNode}
 use Rattle.settle_core.specs.declared.worker.Worker.{Worker}
 use Rattle.settle_core.specs.Net.{NetworkView}
-use Rattle.settle_core.specs.Workers.{nodes_of, AreTied}
 use Rattle.settle_core.proofs.CrewLemmas.{are_workers, counted, read_within, unwired_laid, unwired_paired, workers_nodes, workers_tied}
 use Rattle.settle_core.proofs.parting.part.Goals as goal
 

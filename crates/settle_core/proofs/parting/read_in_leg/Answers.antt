@@ -1,4 +1,4 @@
-use Rattle.std.proofs.Common.{◌≡◌, ◌+◌, ◌∙◌, ℕ, List, Option, Some, Global, Vec, ap, sym, subst, arith, length}
+use Rattle.std.proofs.Common.{◌+◌, ◌∙◌, ℕ, Option, Global, Vec, ap, sym, subst, arith, length}
 use Rattle.service_machine.specs.Steps.{targets}
 use Rattle.svc_graph.specs.declared.lent.DefinitionRef.{DefinitionRef}
 use Rattle.svc_graph.specs.Lent.{definition_lent}

@@ -1,6 +1,7 @@
-use Rattle.std.proofs.Common.{◌≡◌, ◌<◌, ◌∙◌, ◌++◌, ◌∷◌, List, ℕ, length, subst, sym, ap, arith}
+use Rattle.std.proofs.Common.{◌≡◌, ◌∙◌, ◌++◌, ◌∷◌, List, subst, ap}
 use Rattle.settle_core.specs.Inside.Working.{IsOf, IsWorker}
 use Rattle.settle_core.specs.declared.wired.WiredNode.{WiredNode}
+use Rattle.settle_core.specs.Rings.{ringed}
 use Rattle.settle_core.proofs.PartLemmas.{next_at, next_within}
 use Rattle.settle_core.proofs.parting.workers_of.Goals as goal
 
@@ -14,4 +15,5 @@ invariant_of-push c =
     record {
       log = ∣ subst (λ (w : WiredNode). IsOf c.loop-wired.number w.node) at (c.requires.each.logs c.loop-wired.number c.in-Some.wired less) ∣₁;
       kept = subst (λ (w : WiredNode). IsWorker w) at (c.requires.each.each c.loop-wired.number c.in-Some.wired less);
+      ringed = c.in_ok-peers.ensures ∙ ap (ringed 0) c.as_slice.ensures.value;
     }

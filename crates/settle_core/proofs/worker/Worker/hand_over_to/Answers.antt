@@ -1,4 +1,4 @@
-use Rattle.std.proofs.Common.{◌≡◌, ◌≢◌, ◌<◌, ◌++◌, [], ℕ, List, length, refl, sym, ap, subst, arith, ◌∙◌, Option}
+use Rattle.std.proofs.Common.{◌≡◌, ◌<◌, ◌++◌, length, refl, sym, ap, subst, arith, ◌∙◌, Option}
 use Rattle.std.specs.Option.{IsSome}
 use Rattle.link_fifo.specs.declared.piece_out.PieceOut.{PieceOut}
 use Rattle.node_core.specs.Outbox.{waiting}
@@ -6,6 +6,7 @@ use Rattle.node_core.proofs.LegLemmas.{handing_stays}
 use Rattle.settle_core.specs.Rings.{handed_to}
 use Rattle.settle_core.proofs.GoingLemmas.{log_stays, goes_on_to}
 use Rattle.settle_core.proofs.RingLemmas.{found_at, set_at, set_off, same_to_along, same_to_some, full_there}
+use Rattle.settle_core.proofs.PeerLemmas.{ringed_set}
 use Rattle.settle_core.proofs.TableLemmas.{length_set}
 use Rattle.settle_core.proofs.WorkerLemmas.{worker_handed, left_there}
 use Rattle.settle_core.proofs.worker.Worker.hand_over_to.Goals as goal
@@ -29,7 +30,10 @@ invariant_of-self c =
               (ap (λ (o : Option PieceOut). handed_to o ++ waiting p w.node.outbox) before ∙ c.hand_to.ensures.moved ∙ ap (λ (o : Option PieceOut). handed_to o ++ waiting p c.hand_to.new.node.outbox) (sym after))
               (λ q ne. set_off w.to.items i p at within end q ne) c.hand_to.ensures.others
               (λ some. subst (λ (o : Option PieceOut). IsSome o) (sym after) (same_to_some c.index_mut-end.result.now end c.hand_to.ensures.ring (subst (λ (o : Option PieceOut). IsSome o) before some))),
-          tt,
+          (
+            c.args.self.now.ringed ∙ sym (ringed_set 0 w.to.items i c.index_mut-end.result.now end c.index_mut-end.ensures.value c.hand_to.ensures.ring),
+            tt,
+          ),
         ),
       ),
     )

@@ -1,4 +1,4 @@
-use Rattle.std.proofs.Common.{◌≡◌, ◌<◌, ℕ, length, refl, sym, ap, subst, arith, ◌∙◌, ◌++◌, Option, option_to_list}
+use Rattle.std.proofs.Common.{◌≡◌, ◌<◌, length, refl, sym, ap, subst, arith, ◌∙◌, ◌++◌, Option, option_to_list}
 use Rattle.std.specs.Option.{IsSome}
 use Rattle.link_fifo.specs.declared.piece_in.PieceIn.{PieceIn}
 use Rattle.settle_core.specs.Rings.{received_from}
@@ -25,7 +25,7 @@ invariant_of-self-then-is_none c =
               (ap received_from after ∙ c.in_ok-self.ensures.item ∙ ap (λ (o : Option PieceIn). received_from o ++ option_to_list c.in_ok-self.field-0) (sym before))
               (λ k ne. set_off w.from.items i i refl in_from c.next_item.new.end k ne)
               (λ some. subst (λ (o : Option PieceIn). IsSome o) (sym before) (same_from_some c.index_mut.result.now c.next_item.new.end c.in_ok-self.ensures.ring (subst (λ (o : Option PieceIn). IsSome o) after some))),
-          tt,
+          (c.args.self.now.ringed, tt),
         ),
       ),
     )

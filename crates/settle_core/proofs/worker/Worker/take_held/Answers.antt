@@ -1,4 +1,4 @@
-use Rattle.std.proofs.Common.{◌≡◌, ◌<◌, ℕ, length, refl, sym, ap, subst, arith, ◌∙◌}
+use Rattle.std.proofs.Common.{◌≡◌, ◌<◌, length, refl, sym, arith, ◌∙◌}
 use Rattle.node_core.proofs.LegLemmas.{takes_stay}
 use Rattle.settle_core.proofs.GoingLemmas.{goes_on_with, log_stays}
 use Rattle.settle_core.proofs.RingLemmas.{found_at, set_at, set_off}
@@ -17,6 +17,7 @@ invariant_of-self-in-Ok c =
       kept = worker_took p c.in-Some.bytes w _ c.args.self.now.kept (λ q. refl) (λ k. refl)
           (found_at w.held.items i p at in_held c.index_mut.result.now c.index_mut.ensures.value ∙ sym c.take.ensures.value ∙ c.in-Some.is)
           (set_at w.held.items i p at in_held c.take.new.self ∙ c.take.ensures.after) (λ k ne. set_off w.held.items i p at in_held c.take.new.self k ne) c.in-Ok.ensures.ok c.in-Ok.ensures.took;
+      ringed = c.args.self.now.ringed;
     }
 
 pub returns-in-Ok : goal.returns-in-Ok

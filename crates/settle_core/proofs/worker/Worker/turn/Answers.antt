@@ -6,7 +6,7 @@ pub invariant_of-self : goal.invariant_of-self
 invariant_of-self c =
     let stays = turned_stays c.turned.result c.args.self.now.wired.node c.turned.new.node c.turned.ensures.state c.turned.ensures.log c.turned.ensures.err in (
       (c.args.self.now.wired.to_wide, (c.args.self.now.wired.from_wide, (c.args.self.now.wired.held_wide, tt))),
-      (log_stays c.args.self.now.id c.args.self.now.wired.node c.turned.new.node stays c.args.self.now.log, (turned_worker c.args.self.now.wired _ c.args.self.now.kept (λ q. refl) (λ p. refl) (λ p. refl) c.turned.result c.turned.ensures.state c.turned.ensures.log c.turned.ensures.err, tt)),
+      (log_stays c.args.self.now.id c.args.self.now.wired.node c.turned.new.node stays c.args.self.now.log, (turned_worker c.args.self.now.wired _ c.args.self.now.kept (λ q. refl) (λ p. refl) (λ p. refl) c.turned.result c.turned.ensures.state c.turned.ensures.log c.turned.ensures.err, (c.args.self.now.ringed, tt))),
     )
 
 pub returns-clause-goes_on : goal.returns-clause-goes_on
