@@ -1,0 +1,4 @@
+pub mod Causes
+pub mod Entries
+pub mod Fakes
+pub mod Laws
