@@ -29,7 +29,7 @@ second_given false o h = h
 plain_digit : (digit : ℕ) (rest : Text) → is_some (number_behind 0 (digit ∷ rest)) ≡ true → IsPlain (digit ∷ rest)
 plain_digit digit rest h = digit_is_plain digit rest (no_hyphen digit (both_given (is_ascii_digit digit) _ _ h))
 
-plain_number : (word : Text) → is_some (number_value word) ≡ true → IsPlain word
+pub plain_number : (word : Text) → is_some (number_value word) ≡ true → IsPlain word
 plain_number [] h = absurd (cc h)
 plain_number (digit ∷ []) h = plain_digit digit [] h
 plain_number (first ∷ second ∷ rest) h = plain_digit first (second ∷ rest) (second_given (first == 48) _ h)

@@ -9,7 +9,7 @@ use Rattle.command_words.specs.declared.size.Size.{Size}
 use Rattle.command_words.specs.declared.trace_flags.TraceFlags.{TraceFlags}
 use Rattle.command_words.specs.Words.{command_named, command_of, flags_of, loading, making, running, size_in, stepping}
 
-other_word : (word text : List ℕ) → (word ≡ text → ⊥) → pointwise nat_eq word text ≡ false
+pub other_word : (word text : List ℕ) → (word ≡ text → ⊥) → pointwise nat_eq word text ≡ false
 other_word word text differs = go (pointwise nat_eq word text) (λ e. same_text word text (sym e))
   where
     go : (b : Bool) → (b ≡ true → word ≡ text) → b ≡ false

@@ -49,15 +49,15 @@ pub(crate) fn size_found(found: &ArgMatches<'_>) -> Option<Size>
     size_of(services, changes, number_found(found, "start"))
 }
 
-// Whether the flag of this name is found.
-fn flag_found(found: &ArgMatches<'_>, name: &str) -> bool
+/// Whether the flag of this name is found.
+pub(crate) fn flag_found(found: &ArgMatches<'_>, name: &str) -> bool
     ensures { (is_there : Bool) → one_text (found_of found.now) name.now ≡ Some (flag_text is_there) → result ≡ is_there }
 {
     found.get_flag(name)
 }
 
-// The number that the text found under this name is.
-fn number_found(found: &ArgMatches<'_>, name: &str) -> Option<u32>
+/// The number that the text found under this name is.
+pub(crate) fn number_found(found: &ArgMatches<'_>, name: &str) -> Option<u32>
     ensures { result ≡ number_in (first_value (found_of found.now) name.now) }
 {
     number_of(found.get_str(name)?)

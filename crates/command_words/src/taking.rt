@@ -89,8 +89,8 @@ fn load_taken<'a>(alloc: Global) -> Result<clap::Command<'a>, OutOfMemory>
     with_size(alloc, "load")
 }
 
-// A command with the two flags of trace lines.
-fn with_flags<'a>(alloc: Global, name: &'a str) -> Result<clap::Command<'a>, OutOfMemory>
+/// A command with the two flags of trace lines.
+pub(crate) fn with_flags<'a>(alloc: Global, name: &'a str) -> Result<clap::Command<'a>, OutOfMemory>
     ensures { IfOk result (λ command. app_of command ≡ with_flags name.entry.now) }
 {
     Ok(
@@ -112,8 +112,8 @@ fn with_size<'a>(alloc: Global, name: &'a str) -> Result<clap::Command<'a>, OutO
     )
 }
 
-// A command without arguments, and without a flag for help.
-fn bare<'a>(alloc: Global, name: &'a str) -> clap::Command<'a>
+/// A command without arguments, and without a flag for help.
+pub(crate) fn bare<'a>(alloc: Global, name: &'a str) -> clap::Command<'a>
     ensures { app_of result ≡ bare name.entry.now }
 {
     clap::Command::new(alloc, name).disable_help_flag(true)
@@ -127,8 +127,8 @@ fn place<'a>(alloc: Global, name: &'a str) -> Arg<'a>
     Arg::new(alloc, name).required(true).action(ArgAction::Set)
 }
 
-// A flag that may stand anywhere behind the command, `--` and its name.
-fn flag<'a>(alloc: Global, name: &'a str) -> Arg<'a>
+/// A flag that may stand anywhere behind the command, `--` and its name.
+pub(crate) fn flag<'a>(alloc: Global, name: &'a str) -> Arg<'a>
     ensures rule { rule_of result ≡ flag name.entry.now }
     ensures local { result.global ≡ false }
 {

@@ -3,6 +3,8 @@ use crate::{Command, Size, TraceFlags};
 use std::alloc::Global;
 use std::test::Fail;
 
+mod kept;
+
 // These words.
 fn strings(alloc: Global, words: &[&str]) -> Result<Vec<String>, Fail> {
     let mut all = Vec::new(alloc);
