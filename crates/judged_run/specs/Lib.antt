@@ -1,0 +1,11 @@
+pub mod Texts
+pub mod LineRules
+pub mod Table
+pub mod Verdicts
+pub mod LogStates
+pub mod Machine
+pub mod Written
+pub mod Runs
+pub mod Forms
+pub mod Opened
+pub mod Laws
