@@ -1,0 +1,5 @@
+pub mod Rows
+pub mod Sending
+pub mod Lists
+pub mod Opening
+pub mod Blocks
