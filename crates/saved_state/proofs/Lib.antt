@@ -1,0 +1,9 @@
+pub mod ExpressionLemmas
+pub mod JudgingLemmas
+pub mod ListLemmas
+pub mod NamingLemmas
+pub mod OneState
+pub mod ReadingLemmas
+pub mod SavingLemmas
+pub mod StateLemmas
+pub mod ValueLemmas

@@ -1,0 +1,5 @@
+pub mod Bytes
+pub mod Found
+pub mod Named
+pub mod States
+pub mod Writing
